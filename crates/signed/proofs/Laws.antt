@@ -113,6 +113,10 @@ eq-yes a b h = rw (g-le-true a b (omega arith), g-le-true b a (omega arith))
 pub eq-no : (a b : ℤ) → up a + dn b ≢ up b + dn a → eqZ a b ≡ false
 eq-no a b n = by-test (leZ a b) (λ t. (t && leZ b a) ≡ false) (λ e. let h = le-yes a b e in g-le-false b a (omega arith)) (λ e. refl)
 
+-- what the test tells
+pub eq-of : (a b : ℤ) → eqZ a b ≡ true → a ≡ b
+eq-of a b e = by-test (leZ a b) (λ t. t && leZ b a ≡ true → a ≡ b) (λ p q. let h = le-yes a b p in let k = le-yes b a q in g-eq a b (omega arith)) (λ p q. absurd (subst T (sym q) tt)) e
+
 -- ---- ranges
 pub fits-up : (w : Width) (z : ℤ) → SFits w z → up z < 2 ^ hbits w
 fits-up w (pos n) f = f .sfits
