@@ -1,0 +1,4 @@
+pub mod Records
+pub mod Paint
+pub mod Flat
+pub mod OverInt
