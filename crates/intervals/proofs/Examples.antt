@@ -5,6 +5,7 @@ use mathlib.Core.List.{List, [], _∷_}
 use Prim.Native.Nat.{ℕ}
 use lib.IntN.{ℤ, pos, negsuc}
 use Rattle.intervals.specs.Records.{Rec, rec, Area, area}
+use Rattle.intervals.specs.Lists.{rules, kept, used, goodLength, onTrack}
 use Rattle.intervals.specs.OverInt.{span, cellOf, keeps, stateAt, fit, painted, decode, isFlat, flat}
 
 -- a record and an area of small numbers
@@ -93,3 +94,44 @@ unflat = refl
 
 not-flat : isFlat (pos 0 ∷ pos 0 ∷ pos 9 ∷ pos 1 ∷ pos 0 ∷ pos 5 ∷ pos 0 ∷ pos 0 ∷ []) ≡ false
 not-flat = refl
+
+-- ---- a list with all its rules: tracks -10000..9999, lines -10000..10000, zeros behind
+to-the-edge : rules (rec (negsuc 9999) (negsuc 9999) (pos 10000) 1 ∷ rec (pos 9999) (pos 9999) (pos 10000) 2 ∷ []) ≡ true
+to-the-edge = refl
+
+track-too-low : rules (rec (negsuc 10000) (pos 0) (pos 1) 1 ∷ []) ≡ false
+track-too-low = refl
+
+track-too-high : rules (rec (pos 10000) (pos 0) (pos 1) 1 ∷ []) ≡ false
+track-too-high = refl
+
+start-too-low : rules (rec (pos 0) (negsuc 10000) (pos 1) 1 ∷ []) ≡ false
+start-too-low = refl
+
+end-too-high : rules (rec (pos 0) (pos 0) (pos 10001) 1 ∷ []) ≡ false
+end-too-high = refl
+
+one-kept : kept (pos 0 ∷ pos 0 ∷ pos 9 ∷ pos 1 ∷ pos 0 ∷ pos 0 ∷ pos 0 ∷ pos 0 ∷ []) ≡ true
+one-kept = refl
+
+one-used : used (pos 0 ∷ pos 0 ∷ pos 9 ∷ pos 1 ∷ pos 0 ∷ pos 0 ∷ pos 0 ∷ pos 0 ∷ []) ≡ 1
+one-used = refl
+
+-- a place that is not zero behind the records; a record behind unused places
+not-kept : kept (pos 0 ∷ pos 0 ∷ pos 9 ∷ pos 1 ∷ pos 0 ∷ pos 5 ∷ pos 0 ∷ pos 0 ∷ []) ≡ false
+not-kept = refl
+
+behind-unused : kept (pos 0 ∷ pos 0 ∷ pos 0 ∷ pos 0 ∷ pos 0 ∷ pos 0 ∷ pos 9 ∷ pos 1 ∷ []) ≡ false
+behind-unused = refl
+
+state-below-zero : kept (pos 0 ∷ pos 0 ∷ pos 9 ∷ negsuc 0 ∷ []) ≡ false
+state-below-zero = refl
+
+no-places : goodLength [] ≡ true
+no-places = refl
+
+three-places : goodLength (pos 0 ∷ pos 0 ∷ pos 0 ∷ []) ≡ false
+three-places = refl
+
+of-one-track : onTrack (pos 1) (r 0 0 9 2 ∷ r 1 0 3 2 ∷ r 1 5 9 2 ∷ r 3 1 2 1 ∷ []) ≡ r 1 0 3 2 ∷ r 1 5 9 2 ∷ []
+of-one-track = refl

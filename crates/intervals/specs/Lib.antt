@@ -2,3 +2,4 @@ pub mod Records
 pub mod Paint
 pub mod Flat
 pub mod OverInt
+pub mod Lists
