@@ -1,15 +1,14 @@
 -- The tracks of an area, as a list.
-use mathlib.Core.Path.{_≡_, refl, sym, ap, _∙_}
-use mathlib.Core.Bool.{Bool, true, false, not, cond, _&&_, _||_}
-use mathlib.Core.List.{List, [], _∷_, _++_}
-use Prim.Native.Nat.{ℕ, zero, suc, _+_, _-_, _≤_, _<_}
+use mathlib.Core.Path.{_≡_, refl}
+use mathlib.Core.Bool.{Bool, true, false, _||_}
+use mathlib.Core.List.{List, [], _∷_}
+use Prim.Native.Nat.{ℕ, zero, suc}
 use lib.IntN.{ℤ, pos, _+ℤ_}
 use lib.Signed.{ltZ}
-use Rattle.signed.specs.Parts.{up, dn, gap}
+use Rattle.signed.specs.Parts.{gap}
 use Rattle.signed.proofs.Laws.{signed, sum}
 use Rattle.intervals.specs.Records.{same}
 use Rattle.intervals.specs.OverInt.{span, upto}
-use Rattle.intervals.proofs.Line.{Test, yea, nay, test, no-both}
 use Rattle.intervals.proofs.Paint.{mem}
 use Rattle.intervals.proofs.Tracks.{Dis, In, same-self}
 
