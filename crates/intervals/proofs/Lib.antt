@@ -1,0 +1,14 @@
+pub mod Line
+pub mod Grid
+pub mod Paint
+pub mod Flat
+pub mod Index
+pub mod IntOrder
+pub mod OverInt
+pub mod Cut
+pub mod Hit
+pub mod Split
+pub mod Tracks
+pub mod Spans
+pub mod OnTrack
+pub mod Examples
