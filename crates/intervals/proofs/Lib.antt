@@ -11,4 +11,5 @@ pub mod Split
 pub mod Tracks
 pub mod Spans
 pub mod OnTrack
+pub mod Lists
 pub mod Examples

@@ -7,9 +7,9 @@ use lib.Dec.{eqb, leb}
 use lib.ListN.{length}
 use lib.IntN.{ℤ, pos, negsuc}
 use lib.Signed.{ltZ, leZ}
-use Rattle.intervals.specs.Records.{Rec, rec, same}
+use Rattle.intervals.specs.Records.{Rec, rec, Area, area, same}
 use Rattle.intervals.specs.Flat.{flatRows}
-use Rattle.intervals.specs.OverInt.{keeps, decode, flat, isFlat, digits}
+use Rattle.intervals.specs.OverInt.{keeps, fit, decode, flat, isFlat, digits}
 
 -- the track is one from `first` to `last`, the lines are from `low` to `high`
 abbrev pub inLimits : ℤ → ℤ → ℤ → ℤ → Rec ℤ → Bool
@@ -27,6 +27,17 @@ allIn (r ∷ rs) = inGrid r && allIn rs
 -- touching ones differ in state"
 abbrev pub rules : List (Rec ℤ) → Bool
 rules rs = keeps rs && allIn rs
+
+-- an area that may be painted: each "start" below its "end", a state 1 or 2, and no "line outside the limited grid"
+abbrev pub areaIn : Area ℤ → Bool
+areaIn (area t₁ t₂ a b s) = leZ (negsuc 9999) t₁ && (leZ t₂ (pos 10000) && (leZ (negsuc 9999) a && leZ b (pos 10000)))
+
+abbrev pub goodArea : Area ℤ → Bool
+goodArea x = fit x && areaIn x
+
+abbrev pub goodAreas : List (Area ℤ) → Bool
+goodAreas [] = true
+goodAreas (x ∷ h) = goodArea x && goodAreas h
 
 -- the first n records of a flat list
 abbrev pub recs : ℕ → List ℤ → List (Rec ℤ)
