@@ -12,4 +12,5 @@ pub mod Tracks
 pub mod Spans
 pub mod OnTrack
 pub mod Lists
+pub mod Limits
 pub mod Examples
