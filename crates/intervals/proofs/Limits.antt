@@ -1,21 +1,21 @@
 -- Painting an area inside the limited grid keeps all the list rules. A record inside the limits is a run whose ends may be what `Limited` says, so
 -- this is the theory of runs once more, with that for the ends that a run may have.
-use mathlib.Core.Path.{_≡_, refl, sym, ap, _∙_}
-use mathlib.Core.Bool.{Bool, true, false, _&&_, _||_}
+use mathlib.Core.Path.{_≡_, refl, sym, _∙_}
+use mathlib.Core.Bool.{true, _&&_}
 use mathlib.Core.List.{List, [], _∷_, map}
 use Prim.Native.Nat.{ℕ}
 use lib.IntN.{ℤ, pos, negsuc}
-use lib.Signed.{ltZ, leZ, _≤ℤ_}
+use lib.Signed.{ltZ, leZ}
 use Rattle.signed.proofs.Laws.{signed}
 use Rattle.intervals.specs.Records.{Rec, rec, Area, area, same, between}
-use Rattle.intervals.specs.Paint.{Run, run, Point, pt, trackOf, posOf, toRun, toRec, lex, paintTracks}
+use Rattle.intervals.specs.Paint.{Point, pt, trackOf, posOf, toRun, toRec, paintTracks}
 use Rattle.intervals.specs.OverInt.{ok, span, keeps, fit, fits, paintList, painted}
 use Rattle.intervals.specs.Lists.{inGrid, allIn, rules, areaIn, goodArea, goodAreas}
 use Rattle.intervals.specs.Cut.{lx, Rn}
 use Rattle.intervals.proofs.Line as Ln
 use Rattle.intervals.proofs.Line.{Linear, _≺_, _≼_, From, none, next, Keeps, empty, first, Rules, Test, yea, nay, test, no-both, Side, less, more}
 use Rattle.intervals.proofs.Grid as Gr
-use Rattle.intervals.proofs.Grid.{Span, and-l, and-r, and-i, and₃}
+use Rattle.intervals.proofs.Grid.{Span, or-r, and-l, and-r, and-i, and₃}
 use Rattle.intervals.proofs.Paint.{mem}
 use Rattle.intervals.proofs.IntOrder.{int-linear}
 use Rattle.intervals.proofs.OverInt.{span-is, paintList-keeps}
@@ -88,10 +88,6 @@ of-keeps empty = refl
 of-keeps (first {a = p} {b = q} {u = u} w o f) = and-i (is-in (trackOf p) (posOf p) (posOf q) u (w .grid)) (of-from f)
 
 -- ---- painting
-
-or-r : (x y : Bool) → y ≡ true → x || y ≡ true
-or-r true y e = refl
-or-r false y e = e
 
 tracks-in : (a b : ℤ) (s : ℕ) → OK s → (ts : List ℤ) → ((t : ℤ) → mem ltZ t ts ≡ true → Limited (pt t a) (pt t b))
     → {rs : List Rn} → Keeps lx OK Limited rs → Keeps lx OK Limited (paintTracks ltZ ts a b s rs)

@@ -1,12 +1,12 @@
 -- Flat lists that hold records, at the integers: what `Holds` says by `decode`, by places and by `kept`, and that it fixes the list.
 use mathlib.Core.Path.{_≡_, refl, sym, ap, _∙_, subst}
-use mathlib.Core.Bool.{Bool, true, false, _&&_}
+use mathlib.Core.Bool.{true, _&&_}
 use mathlib.Core.List.{List, [], _∷_, _++_}
 use Prim.Native.Nat.{ℕ, zero, suc, _+_, _-_, _*_, _≤_, _<_}
 use native.Mathlib.Omega.{arith}
 use lib.ListN.{length, take, drop, replicate, length-append, length-replicate}
 use lib.Seq.{take-at, drop-at}
-use lib.IntN.{ℤ, pos, negsuc, natAbs}
+use lib.IntN.{ℤ, pos, negsuc}
 use lib.Signed.{ltZ, leZ, _≤ℤ_}
 use Rattle.signed.proofs.Laws.{signed}
 use Rattle.intervals.specs.Records.{Rec, rec}
