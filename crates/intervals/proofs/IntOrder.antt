@@ -1,0 +1,14 @@
+-- The integers are a linear order.
+use mathlib.Core.Path.{_≡_}
+use mathlib.Core.Bool.{true, false}
+use lib.IntN.{ℤ}
+use lib.Signed.{ltZ}
+use Rattle.signed.proofs.Laws.{signed}
+use Rattle.intervals.proofs.Line.{Linear}
+
+pub int-linear : Linear ℤ ltZ
+int-linear = record {
+  irr = λ x. omega signed;
+  tra = λ x y z h k. omega signed;
+  con = λ x y h k. omega signed;
+}

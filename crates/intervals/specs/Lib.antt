@@ -1,0 +1,5 @@
+pub mod Records
+pub mod Paint
+pub mod Flat
+pub mod OverInt
+pub mod Lists

@@ -1,0 +1,55 @@
+-- "Row list and column list": a flat list of numbers that holds records, and all the rules that it keeps.
+use mathlib.Core.Path.{_≡_}
+use mathlib.Core.Bool.{Bool, true, false, cond, _&&_}
+use mathlib.Core.List.{List, [], _∷_}
+use Prim.Native.Nat.{ℕ, _%_}
+use lib.Dec.{eqb, leb}
+use lib.ListN.{length}
+use lib.IntN.{ℤ, pos, negsuc}
+use lib.Signed.{ltZ, leZ}
+use Rattle.intervals.specs.Records.{Rec, rec, same}
+use Rattle.intervals.specs.Flat.{flatRows}
+use Rattle.intervals.specs.OverInt.{keeps, decode, flat, isFlat, digits}
+
+-- the track is one from `first` to `last`, the lines are from `low` to `high`
+abbrev pub inLimits : ℤ → ℤ → ℤ → ℤ → Rec ℤ → Bool
+inLimits first last low high (rec t a b s) = leZ first t && (leZ t last && (leZ low a && leZ b high))
+
+-- "Track -10000..9999, lines inside the limited grid": which is -10000..10000
+abbrev pub inGrid : Rec ℤ → Bool
+inGrid = inLimits (negsuc 9999) (pos 9999) (negsuc 9999) (pos 10000)
+
+abbrev pub allIn : List (Rec ℤ) → Bool
+allIn [] = true
+allIn (r ∷ rs) = inGrid r && allIn rs
+
+-- the rules of the records. `keeps` is "Sorted by track, then start", "start < end", state 1 or 2, and "Within a track, records are disjoint, and
+-- touching ones differ in state"
+abbrev pub rules : List (Rec ℤ) → Bool
+rules rs = keeps rs && allIn rs
+
+-- the first n records of a flat list
+abbrev pub recs : ℕ → List ℤ → List (Rec ℤ)
+recs n l = flatRows digits n l
+
+-- l is n records that keep the rules, and then "Unused places are zero and come last"
+pub record Holds (l : List ℤ) (n : ℕ) : Type 0 where
+  pub keep : rules (recs n l) ≡ true
+  pub laid : l ≡ flat (length l) (recs n l)
+
+-- how many records a flat list has: those before the first place whose state is 0
+abbrev pub used : List ℤ → ℕ
+used l = length (decode l)
+
+-- whether a flat list keeps the rules: `isFlat` says that only zeros stand behind the records
+abbrev pub kept : List ℤ → Bool
+kept l = isFlat l && rules (decode l)
+
+-- "A list's length is a multiple of 4, at most 1,048,576 numbers"
+abbrev pub goodLength : List ℤ → Bool
+goodLength l = eqb (length l % 4) 0 && leb (length l) 1048576
+
+-- the records of one track, in order
+abbrev pub onTrack : ℤ → List (Rec ℤ) → List (Rec ℤ)
+onTrack t [] = []
+onTrack t (rec u a b s ∷ rs) = cond (same ltZ t u) (rec u a b s ∷ onTrack t rs) (onTrack t rs)
