@@ -5,4 +5,10 @@ pub mod Flat
 pub mod Index
 pub mod IntOrder
 pub mod OverInt
+pub mod Cut
+pub mod Hit
+pub mod Split
+pub mod Tracks
+pub mod Spans
+pub mod OnTrack
 pub mod Examples

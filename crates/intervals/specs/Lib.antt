@@ -3,3 +3,4 @@ pub mod Paint
 pub mod Flat
 pub mod OverInt
 pub mod Lists
+pub mod Cut
