@@ -1,0 +1,11 @@
+pub mod ByIndex
+pub mod Sorted
+pub mod Over
+pub mod LastOverlap
+pub mod Crossed
+pub mod Named
+pub mod Laid
+pub mod Cells
+pub mod Promises
+pub mod Search
+pub mod Boards

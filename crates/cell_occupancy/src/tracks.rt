@@ -1,0 +1,75 @@
+// The records of a track, as a part of the list.
+ghost use mathlib.Core.Path.{_≡_};
+ghost use Prim.Native.Nat.{ℕ, _+_, _*_, _≤_, _<_};
+ghost use lib.ListN.{length};
+ghost use lib.IntN.{ℤ};
+ghost use lib.Signed.{_<ℤ_};
+ghost use Rattle.intervals.specs.OverInt.{encode};
+ghost use Rattle.intervals.specs.Lists.{Holds, recs, onTrack};
+ghost use Rattle.cell_occupancy.specs.Calls.{trackOf, recordsOfTrack};
+ghost use Rattle.cell_occupancy.specs.Inner.{T, Front, Split, Part};
+use crate::rules::Used;
+use crate::rules::kept;
+use crate::rules::number;
+
+// The first record from `from` on whose track is not below x, by halving. x is wide enough for the track behind any track.
+pub fn lower(list: &[i16], from: usize, used: usize, x: i32) -> usize
+    requires { ⌜ Front (now list) used ⌝ }
+    requires { ⌜ from ≤ used ⌝ }
+    requires { ⌜ ((k : ℕ) → k < from → T (now list) k <ℤ x) ⌝ }
+    ensures { λ r. ⌜ (from ≤ r) × Split (now (list .entry)) used x r ⌝ }
+{
+    let mut lo = from;
+    let mut hi = used;
+    while lo < hi {
+        let mid = lo + (hi - lo) / 2;
+        let track = number(list, 4 * mid) as i32;
+        if track < x {
+            lo = mid + 1;
+        } else {
+            hi = mid;
+        }
+    }
+    lo
+}
+
+// The records of one track.
+pub fn track_part<'a>(list: &'a [i16], used: usize, track: i16) -> &'a [i16]
+    requires { ⌜ Holds (now list) used ⌝ }
+    ensures { λ r. ⌜ now r ≡ encode (onTrack track (recs used (now (list .entry)))) ⌝ }
+    ensures { λ r. ⌜ Part (now (list .entry)) used track (now r) ⌝ }
+{
+    let x = track as i32;
+    let a = lower(list, 0, used, x);
+    let b = lower(list, a, used, x + 1);
+    &list[4 * a..4 * b]
+}
+
+// The same of any list: nothing where its length or its records break the rules.
+fn track_or_none<'a>(list: &'a [i16], track: i16) -> &'a [i16]
+    ensures { λ r. ⌜ now r ≡ trackOf (now (list .entry)) track ⌝ }
+{
+    if list.len() % 4 != 0 {
+        return &list[0..0];
+    }
+    if 1048576 < list.len() {
+        return &list[0..0];
+    }
+    let Used::Records(n) = kept(list) else {
+        return &list[0..0];
+    };
+    track_part(list, n, track)
+}
+
+// The records of a track in the list that the axis names: the columns (0) or the rows (1). The other list is not looked at.
+pub fn records_of_track<'a>(rows: &'a [i16], cols: &'a [i16], axis: u8, track: i16) -> &'a [i16]
+    ensures { λ r. ⌜ now r ≡ recordsOfTrack (now (rows .entry)) (now (cols .entry)) axis track ⌝ }
+{
+    if axis == 0 {
+        return track_or_none(cols, track);
+    }
+    if axis == 1 {
+        return track_or_none(rows, track);
+    }
+    &rows[0..0]
+}
