@@ -27,13 +27,10 @@ use Rattle.cell_painting.proofs.Found.{Found, found, fours-add}
 use Rattle.cell_painting.specs.Passes.{Good, Above, nil, cons}
 use Rattle.cell_painting.proofs.Above.{above-append, above-late, late-above, on-above}
 
-pub suc-of : (t u : ℤ) → u ≡ t -ℤ pos 1 → sucℤ u ≡ t
-suc-of t u e = go u (omega signed)
-  where
-    go : (u : ℤ) → up u + dn t + 1 ≡ dn u + up t → sucℤ u ≡ t
-    go (pos n) h = omega signed
-    go (negsuc zero) h = omega signed
-    go (negsuc (suc n)) h = omega signed
+pub suc-of : (t u : ℤ) → u ≡ t -ℤ pos 1 → u +ℤ pos 1 ≡ t
+suc-of t u e =
+    let h : t ≡ u +ℤ pos 1 = omega signed in
+    sym h
 
 pub length-runs : (rs : List Four) → length (runs rs) ≡ length rs
 length-runs rs = length-map rs toRun

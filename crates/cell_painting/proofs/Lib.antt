@@ -5,4 +5,3 @@ pub mod Above
 pub mod Count
 pub mod Moves
 pub mod Sweep
-pub mod Whole
