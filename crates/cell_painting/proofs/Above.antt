@@ -25,7 +25,7 @@ use Rattle.intervals.proofs.OnTrack as Ot
 use Rattle.intervals.proofs.OnTrack.{On}
 use Rattle.flat_records.specs.Fours.{Four}
 use Rattle.cell_painting.specs.Reach as Se
-use Rattle.cell_painting.specs.Reach.{runs, toRun, Lo, Tags}
+use Rattle.cell_painting.specs.Reach.{runs, runOf, Lo, Tags}
 use Rattle.cell_painting.specs.Passes.{Above, nil, cons}
 
 pub above-append : {t : ℤ} {xs : List Four} (ys : List Four) → Above t xs → Above t ys → Above t (xs ++ ys)

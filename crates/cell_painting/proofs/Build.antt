@@ -18,10 +18,8 @@ use Rattle.intervals.specs.Cut.{new, lrem, lstart, rtail, rend, lx, Rn}
 use Rattle.flat_records.specs.Fours.{Four, fourAt, fours}
 use Rattle.flat_records.proofs.Parts.{same16}
 use Rattle.flat_records.proofs.Fours.{fours-more, fours-snoc, fourAt-drop-add}
-use Rattle.cell_painting.specs.Reach.{toRun, runs, startOf, leftOf, endOf, rightOf, Tags, nil, cons, Built, Pieced, OnTrack}
-
-abbrev pub ζ : ℤ → ℤ
-ζ z = toZ w16 (ofZ w16 z)
+use Rattle.cell_painting.proofs.Bits.{ζ}
+use Rattle.cell_painting.specs.Reach.{runOf, runs, startOf, leftOf, endOf, rightOf, Tags, nil, cons, Built, Pieced, OnTrack}
 
 module _ (t c v d z a b s : ℤ) (T : SFits w16 t) (C : SFits w16 c) (Vv : SFits w16 v) (D : SFits w16 d) (Z : SFits w16 z) (A : SFits w16 a) (B : SFits w16 b) (S : SFits w16 s)
     (st en : ℤ) (o : mag st < 2 ^ 15) (o′ : mag en < 2 ^ 15)
@@ -137,8 +135,8 @@ module _ (l : List ℤ) (i j : ℕ) (t a b s : ℤ) (h : i < j) (k : 4 * j ≤ l
       let f : 4 * i + 4 * (j - i - 1) ≡ 4 * (j - 1) = omega arith in
       let ms = fours (j - i - 1) (drop (4 * i) l) in
       ap runs ((λ m. fours (e m) (drop (4 * i) l)) ∙ fours-snoc (j - i - 1) (drop (4 * i) l))
-      ∙ map-append toRun ms (fourAt (drop (4 * i) l) (4 * (j - i - 1)) ∷ [])
-      ∙ ap (λ (r : Four). runs ms ++ (toRun r ∷ [])) (fourAt-drop-add l (4 * i) (4 * (j - i - 1)) ∙ ap (fourAt l) f)
+      ∙ map-append runOf ms (fourAt (drop (4 * i) l) (4 * (j - i - 1)) ∷ [])
+      ∙ ap (λ (r : Four). runs ms ++ (runOf r ∷ [])) (fourAt-drop-add l (4 * i) (4 * (j - i - 1)) ∙ ap (fourAt l) f)
       ∙ (λ m. runs ms ++ (run (pt (Y .track) (Y .start)) (pt (on .last h m) (Y .end)) (ofZ w16 (Y .state)) ∷ []))
 
   pub pieced : (put : List Four) → Built t (X .start) (X .state) (Y .end) (Y .state) a b s put → Pieced t a b (ofZ w16 s) (fours (j - i) (drop (4 * i) l)) put

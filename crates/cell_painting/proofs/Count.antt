@@ -22,7 +22,7 @@ use Rattle.intervals.proofs.Tracks as Tr
 use Rattle.intervals.proofs.Spans.{dis-span, span-none, span-cons}
 use Rattle.flat_records.specs.Fours.{Four, fours}
 use Rattle.flat_records.proofs.Fours.{length-fours}
-use Rattle.cell_painting.specs.Reach.{runs, toRun, lastMid, firstMid, Pieced, OnTrack}
+use Rattle.cell_painting.specs.Reach.{runs, runOf, Apart, Reaches}
 use Rattle.cell_painting.proofs.Found.{Found, found, fours-add}
 use Rattle.cell_painting.specs.Passes.{Good, Above, nil, cons}
 use Rattle.cell_painting.proofs.Above.{above-append, above-late, late-above, on-above}
@@ -33,7 +33,7 @@ suc-of t u e =
     sym h
 
 pub length-runs : (rs : List Four) → length (runs rs) ≡ length rs
-length-runs rs = length-map rs toRun
+length-runs rs = length-map rs runOf
 
 -- the records of a list, those before r and those from r on
 pub halves : (l : List ℤ) (n r : ℕ) → r ≤ n → fours n l ≡ fours r l ++ fours (n - r) (drop (4 * r) l)
@@ -70,61 +70,76 @@ c-start l used t₁ t₂ a b s F G h k g z =
       few = omega (signed, rng F, rng G);
     }
 
-module _ {l : List ℤ} {used : ℕ} {t₁ t₂ a b s t : ℤ} {r more less : ℕ} (v : CInv l used t₁ t₂ a b s t r more less) (T : ℤ) (e : T ≡ t -ℤ pos 1) (i j : ℕ)
-    (ej : j ≡ lastMid l T b (ofZ w16 s) r) (ei : i ≡ firstMid l T a (ofZ w16 s) j) where
+module _ {l : List ℤ} {used : ℕ} {t₁ t₂ a b s t : ℤ} {r more less : ℕ} (v : CInv l used t₁ t₂ a b s t r more less) (T : ℤ) (e : T ≡ t -ℤ pos 1) where
   abbrev W : List Four
   W = fours (used - r) (drop (4 * r) l)
 
   whole : fours used l ≡ fours r l ++ W
   whole = halves l used r (v .left)
 
-  pub c-found : Found l r T a b (ofZ w16 s) W i j
-  c-found =
-      found l r T a b (ofZ w16 s) W i j (v .good .less) (v .good .state) (omega (arith, v .fits, v .left)) (subst (λ (x : List Four). K (runs x)) whole (v .keep))
-      (above-late T b (ofZ w16 s) (omega signed) (v .above)) ej ei
+  late : Late lx (pt T b) (ofZ w16 s) (runs W)
+  late = above-late T b (ofZ w16 s) (omega signed) (v .above)
 
-  pub c-next : ltZ t₁ t ≡ true → (n : ℕ) (put : List Four) → n ≡ length put → n ≤ 3 → Pieced T a b (ofZ w16 s) (fours (j - i) (drop (4 * i) l)) put
-      → CInv l used t₁ t₂ a b s T i (more + n) (less + (j - i))
-  c-next z n put en hn p =
-      let f = c-found in
-      let mid = fours (j - i) (drop (4 * i) l) in
-      let post = fours (r - j) (drop (4 * j) l) in
-      let A = runs (fours used l) in
-      let h : H a b (ofZ w16 s) T A ≡ runs mid = ap (λ (x : List Four). H a b (ofZ w16 s) T (runs x)) whole ∙ f .hits in
-      let hl : length (H a b (ofZ w16 s) T A) ≡ j - i = ap length h ∙ length-runs mid ∙ length-fours (j - i) (drop (4 * i) l) in
-      let nl : length (N a b (ofZ w16 s) T A) ≡ n = ap (λ (x : List Rn). length (new lx (pt T a) (pt T b) (ofZ w16 s) x)) h ∙ sym (ap length (p .is)) ∙ length-runs put ∙ sym en in
-      let sp : span T t₂ ≡ T ∷ span t t₂ = span-cons T t t₂ (suc-of t T e) (omega signed) in
-      let w : fours (used - i) (drop (4 * i) l) ≡ mid ++ (post ++ W) = rest in
-      record {
-        fits = v .fits;
-        keep = v .keep;
-        good = v .good;
-        left = omega (arith, f .low, f .high, v .left);
-        above = subst (Above T) (sym w) (above-append (post ++ W) (on-above T mid (f .mids)) (late-above T b (ofZ w16 s) (post ++ W) (f .behind)));
-        low = omega signed;
-        high = omega signed;
-        news = sum-n nl ∙ sym (ap (λ (ts : List ℤ). sumN a b (ofZ w16 s) ts A) sp);
-        olds = sum-h hl ∙ sym (ap (λ (ts : List ℤ). sumH a b (ofZ w16 s) ts A) sp);
-        old = omega (arith, f .low, f .high, v .old);
-        few = omega (signed, v .few);
-      }
-    where
-      sum-n : length (N a b (ofZ w16 s) T (runs (fours used l))) ≡ n → more + n ≡ length (N a b (ofZ w16 s) T (runs (fours used l))) + sumN a b (ofZ w16 s) (span t t₂) (runs (fours used l))
-      sum-n q = omega (arith, v .news)
+  keep : K (runs (fours r l ++ W))
+  keep = subst (λ (x : List Four). K (runs x)) whole (v .keep)
 
-      sum-h : length (H a b (ofZ w16 s) T (runs (fours used l))) ≡ j - i → less + (j - i) ≡ length (H a b (ofZ w16 s) T (runs (fours used l))) + sumH a b (ofZ w16 s) (span t t₂) (runs (fours used l))
-      sum-h q = omega (arith, v .olds)
+  pub c-room : 4 * r ≤ length l
+  c-room = omega (arith, v .fits, v .left)
 
-      rest : fours (used - i) (drop (4 * i) l) ≡ fours (j - i) (drop (4 * i) l) ++ (fours (r - j) (drop (4 * j) l) ++ W)
-      rest =
-          let f = c-found in
-          let q1 : used - i ≡ (j - i) + ((r - j) + (used - r)) = omega (arith, f .low, f .high, v .left) in
-          let q2 : 4 * i + 4 * (j - i) ≡ 4 * j = omega (arith, f .low) in
-          let q3 : 4 * j + 4 * (r - j) ≡ 4 * r = omega (arith, f .high) in
-          (λ k. fours (q1 k) (drop (4 * i) l)) ∙ fours-add (j - i) ((r - j) + (used - r)) (drop (4 * i) l)
-          ∙ ap (λ (x : List ℤ). fours (j - i) (drop (4 * i) l) ++ fours ((r - j) + (used - r)) x) (drop-drop (4 * (j - i)) (4 * i) l ∙ ap (λ (m : ℕ). drop m l) q2)
-          ∙ ap (λ (x : List Four). fours (j - i) (drop (4 * i) l) ++ x) (fours-add (r - j) (used - r) (drop (4 * j) l)
-          ∙ ap (λ (x : List ℤ). fours (r - j) (drop (4 * j) l) ++ fours (used - r) x) (drop-drop (4 * (r - j)) (4 * j) l ∙ ap (λ (m : ℕ). drop m l) q3))
+  pub c-apart : Apart l r T a b (ofZ w16 s)
+  c-apart = (found l r T a b (ofZ w16 s) W _ _ (v .good .less) (v .good .state) c-room keep late refl refl) .on
+
+  module _ {i j n : ℕ} {put : List ℤ} (p : Reaches l r T a b (ofZ w16 s) i j n put) where
+    c-found : Found l r T a b (ofZ w16 s) W i j
+    c-found = found l r T a b (ofZ w16 s) W i j (v .good .less) (v .good .state) c-room keep late (p .past) (p .first)
+
+    pub c-low : i ≤ j
+    c-low = c-found .low
+
+    pub c-high : j ≤ r
+    c-high = c-found .high
+
+    pub c-next : ltZ t₁ t ≡ true → CInv l used t₁ t₂ a b s T i (more + n) (less + (j - i))
+    c-next z =
+        let f = c-found in
+        let mid = fours (j - i) (drop (4 * i) l) in
+        let post = fours (r - j) (drop (4 * j) l) in
+        let A = runs (fours used l) in
+        let h : H a b (ofZ w16 s) T A ≡ runs mid = ap (λ (x : List Four). H a b (ofZ w16 s) T (runs x)) whole ∙ f .hits in
+        let hl : length (H a b (ofZ w16 s) T A) ≡ j - i = ap length h ∙ length-runs mid ∙ length-fours (j - i) (drop (4 * i) l) in
+        let nl : length (N a b (ofZ w16 s) T A) ≡ n = ap (λ (x : List Rn). length (new lx (pt T a) (pt T b) (ofZ w16 s) x)) h ∙ sym (ap length (p .become .is)) ∙ length-runs (fours n put) ∙ length-fours n put in
+        let sp : span T t₂ ≡ T ∷ span t t₂ = span-cons T t t₂ (suc-of t T e) (omega signed) in
+        let w : fours (used - i) (drop (4 * i) l) ≡ mid ++ (post ++ W) = rest in
+        record {
+          fits = v .fits;
+          keep = v .keep;
+          good = v .good;
+          left = omega (arith, f .low, f .high, v .left);
+          above = subst (Above T) (sym w) (above-append (post ++ W) (on-above T mid (f .mids)) (late-above T b (ofZ w16 s) (post ++ W) (f .behind)));
+          low = omega signed;
+          high = omega signed;
+          news = sum-n nl ∙ sym (ap (λ (ts : List ℤ). sumN a b (ofZ w16 s) ts A) sp);
+          olds = sum-h hl ∙ sym (ap (λ (ts : List ℤ). sumH a b (ofZ w16 s) ts A) sp);
+          old = omega (arith, f .low, f .high, v .old);
+          few = omega (signed, v .few, p .few);
+        }
+      where
+        sum-n : length (N a b (ofZ w16 s) T (runs (fours used l))) ≡ n → more + n ≡ length (N a b (ofZ w16 s) T (runs (fours used l))) + sumN a b (ofZ w16 s) (span t t₂) (runs (fours used l))
+        sum-n q = omega (arith, v .news)
+
+        sum-h : length (H a b (ofZ w16 s) T (runs (fours used l))) ≡ j - i → less + (j - i) ≡ length (H a b (ofZ w16 s) T (runs (fours used l))) + sumH a b (ofZ w16 s) (span t t₂) (runs (fours used l))
+        sum-h q = omega (arith, v .olds)
+
+        rest : fours (used - i) (drop (4 * i) l) ≡ fours (j - i) (drop (4 * i) l) ++ (fours (r - j) (drop (4 * j) l) ++ W)
+        rest =
+            let f = c-found in
+            let q1 : used - i ≡ (j - i) + ((r - j) + (used - r)) = omega (arith, f .low, f .high, v .left) in
+            let q2 : 4 * i + 4 * (j - i) ≡ 4 * j = omega (arith, f .low) in
+            let q3 : 4 * j + 4 * (r - j) ≡ 4 * r = omega (arith, f .high) in
+            (λ k. fours (q1 k) (drop (4 * i) l)) ∙ fours-add (j - i) ((r - j) + (used - r)) (drop (4 * i) l)
+            ∙ ap (λ (x : List ℤ). fours (j - i) (drop (4 * i) l) ++ fours ((r - j) + (used - r)) x) (drop-drop (4 * (j - i)) (4 * i) l ∙ ap (λ (m : ℕ). drop m l) q2)
+            ∙ ap (λ (x : List Four). fours (j - i) (drop (4 * i) l) ++ x) (fours-add (r - j) (used - r) (drop (4 * j) l)
+            ∙ ap (λ (x : List ℤ). fours (r - j) (drop (4 * j) l) ++ fours (used - r) x) (drop-drop (4 * (r - j)) (4 * j) l ∙ ap (λ (m : ℕ). drop m l) q3))
 
 pub c-done : {l : List ℤ} {used : ℕ} {t₁ t₂ a b s t : ℤ} {r more less : ℕ} → CInv l used t₁ t₂ a b s t r more less → ltZ t₁ t ≡ false
     → used + more - less ≡ length (PT a b (ofZ w16 s) (span t₁ t₂) (runs (fours used l)))
@@ -136,13 +151,3 @@ c-done {l} {used} {t₁} {t₂} {a} {b} {s} {t} {r} {more} {less} v z =
     let o : less ≡ sumH a b (ofZ w16 s) (span t₁ t₂) A = v .olds ∙ ap (λ (x : ℤ). sumH a b (ofZ w16 s) (span x t₂) A) e in
     let q : length A ≡ used = length-runs (fours used l) ∙ length-fours used l in
     omega (arith, v .old)
-
--- ---- parameters as code reads them back
-pub back16 : {z : ℤ} → SFits w16 z → SFits w16 (toZ w16 (ofZ w16 z))
-back16 f = rw (toZ-ofZ f) f
-
-pub lt16-back : {x y : ℤ} → SFits w16 x → SFits w16 y → ltZ x y ≡ true → ltZ (toZ w16 (ofZ w16 x)) (toZ w16 (ofZ w16 y)) ≡ true
-lt16-back f g h = rw (toZ-ofZ f, toZ-ofZ g) h
-
-pub good-back : {a b s : ℤ} → SFits w16 a → SFits w16 b → SFits w16 s → Good a b s → Good (toZ w16 (ofZ w16 a)) (toZ w16 (ofZ w16 b)) (toZ w16 (ofZ w16 s))
-good-back f g h k = rw (toZ-ofZ f, toZ-ofZ g, toZ-ofZ h) k

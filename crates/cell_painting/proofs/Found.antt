@@ -23,7 +23,7 @@ use Rattle.intervals.proofs.OnTrack.{On}
 use Rattle.flat_records.specs.Fours.{Four, fourAt, fours}
 use Rattle.flat_records.proofs.Parts.{lt-or-ge}
 use Rattle.flat_records.proofs.Fours.{fours-more, fours-snoc, fourAt-drop-add}
-use Rattle.cell_painting.specs.Reach.{toRun, runs, earlyR, lateR, lastMid, firstMid, OnTrack}
+use Rattle.cell_painting.specs.Reach.{runOf, runs, earlyR, lateR, beforeLate, afterEarly, OnTrack}
 use Rattle.cell_painting.proofs.Build.{map-append}
 
 pub fours-add : (m n : ℕ) (l : List ℤ) → fours (m + n) l ≡ fours m l ++ fours n (drop (4 * m) l)
@@ -42,77 +42,77 @@ part-snoc l i j k e h =
 part-none : (l : List ℤ) (i j : ℕ) → j - i ≡ 0 → fours (j - i) (drop (4 * i) l) ≡ []
 part-none l i j e = ap (λ (k : ℕ). fours k (drop (4 * i) l)) e
 
-runs-snoc : (xs : List Four) (r : Four) → runs (xs ++ (r ∷ [])) ≡ runs xs ++ (toRun r ∷ [])
-runs-snoc xs r = map-append toRun xs (r ∷ [])
+runs-snoc : (xs : List Four) (r : Four) → runs (xs ++ (r ∷ [])) ≡ runs xs ++ (runOf r ∷ [])
+runs-snoc xs r = map-append runOf xs (r ∷ [])
 
 not-early-append : {x : Point ℤ} {s : ℕ} {xs : List Rn} (ys : List Rn) → NotEarly lx x s xs → NotEarly lx x s ys → NotEarly lx x s (xs ++ ys)
 not-early-append ys nil k = k
 not-early-append ys (cons e h) k = cons e (not-early-append ys h k)
 
 module _ (l : List ℤ) (t b : ℤ) (s : ℕ) where
-  pub last-le : (n : ℕ) → lastMid l t b s n ≤ n
+  pub last-le : (n : ℕ) → beforeLate l t b s n ≤ n
   last-le zero = omega arith
   last-le (suc n) = go (test (lateR (fourAt l (4 * n)) t b s)) (last-le n)
     where
-      go : Test (lateR (fourAt l (4 * n)) t b s) → lastMid l t b s n ≤ n → lastMid l t b s (suc n) ≤ suc n
+      go : Test (lateR (fourAt l (4 * n)) t b s) → beforeLate l t b s n ≤ n → beforeLate l t b s (suc n) ≤ suc n
       go (yea e) h = rw e (omega arith)
       go (nay e) h = rw e (omega arith)
 
-  pub first-le : (n : ℕ) → firstMid l t b s n ≤ n
+  pub first-le : (n : ℕ) → afterEarly l t b s n ≤ n
   first-le zero = omega arith
   first-le (suc n) = go (test (earlyR (fourAt l (4 * n)) t b s)) (first-le n)
     where
-      go : Test (earlyR (fourAt l (4 * n)) t b s) → firstMid l t b s n ≤ n → firstMid l t b s (suc n) ≤ suc n
+      go : Test (earlyR (fourAt l (4 * n)) t b s) → afterEarly l t b s n ≤ n → afterEarly l t b s (suc n) ≤ suc n
       go (yea e) h = rw e (omega arith)
       go (nay e) h = rw e (omega arith)
 
   abbrev Rest : ℕ → ℕ → List Rn
   Rest i n = runs (fours (n - i) (drop (4 * i) l))
 
-  rest-snoc : (i n : ℕ) → i ≤ n → Rest i (suc n) ≡ Rest i n ++ (toRun (fourAt l (4 * n)) ∷ [])
+  rest-snoc : (i n : ℕ) → i ≤ n → Rest i (suc n) ≡ Rest i n ++ (runOf (fourAt l (4 * n)) ∷ [])
   rest-snoc i n h = ap runs (part-snoc l i (suc n) n refl h) ∙ runs-snoc (fours (n - i) (drop (4 * i) l)) (fourAt l (4 * n))
 
   rest-none : (i : ℕ) → Rest i i ≡ []
   rest-none i = ap runs (part-none l i i (omega arith))
 
-  pub last-late : (n : ℕ) → Late lx (pt t b) s (Rest (lastMid l t b s n) n)
+  pub last-late : (n : ℕ) → Late lx (pt t b) s (Rest (beforeLate l t b s n) n)
   last-late zero = nil
   last-late (suc n) = go (test (lateR (fourAt l (4 * n)) t b s)) (last-late n) (last-le n)
     where
-      go : Test (lateR (fourAt l (4 * n)) t b s) → Late lx (pt t b) s (Rest (lastMid l t b s n) n) → lastMid l t b s n ≤ n → Late lx (pt t b) s (Rest (lastMid l t b s (suc n)) (suc n))
-      go (yea e) h k = rw e (subst (Late lx (pt t b) s) (sym (rest-snoc (lastMid l t b s n) n k)) (late-append lx (toRun (fourAt l (4 * n)) ∷ []) h (cons e nil)))
+      go : Test (lateR (fourAt l (4 * n)) t b s) → Late lx (pt t b) s (Rest (beforeLate l t b s n) n) → beforeLate l t b s n ≤ n → Late lx (pt t b) s (Rest (beforeLate l t b s (suc n)) (suc n))
+      go (yea e) h k = rw e (subst (Late lx (pt t b) s) (sym (rest-snoc (beforeLate l t b s n) n k)) (late-append lx (runOf (fourAt l (4 * n)) ∷ []) h (cons e nil)))
       go (nay e) h k = rw e (subst (Late lx (pt t b) s) (sym (rest-none (suc n))) nil)
 
-  pub first-none : (n : ℕ) → NotEarly lx (pt t b) s (Rest (firstMid l t b s n) n)
+  pub first-none : (n : ℕ) → NotEarly lx (pt t b) s (Rest (afterEarly l t b s n) n)
   first-none zero = nil
   first-none (suc n) = go (test (earlyR (fourAt l (4 * n)) t b s)) (first-none n) (first-le n)
     where
-      go : Test (earlyR (fourAt l (4 * n)) t b s) → NotEarly lx (pt t b) s (Rest (firstMid l t b s n) n) → firstMid l t b s n ≤ n → NotEarly lx (pt t b) s (Rest (firstMid l t b s (suc n)) (suc n))
-      go (nay e) h k = rw e (subst (NotEarly lx (pt t b) s) (sym (rest-snoc (firstMid l t b s n) n k)) (not-early-append (toRun (fourAt l (4 * n)) ∷ []) h (cons e nil)))
+      go : Test (earlyR (fourAt l (4 * n)) t b s) → NotEarly lx (pt t b) s (Rest (afterEarly l t b s n) n) → afterEarly l t b s n ≤ n → NotEarly lx (pt t b) s (Rest (afterEarly l t b s (suc n)) (suc n))
+      go (nay e) h k = rw e (subst (NotEarly lx (pt t b) s) (sym (rest-snoc (afterEarly l t b s n) n k)) (not-early-append (runOf (fourAt l (4 * n)) ∷ []) h (cons e nil)))
       go (yea e) h k = rw e (subst (NotEarly lx (pt t b) s) (sym (rest-none (suc n))) nil)
 
   -- the record before what was found
-  last-not : (n k : ℕ) → lastMid l t b s n ≡ suc k → lateR (fourAt l (4 * k)) t b s ≡ false
+  last-not : (n k : ℕ) → beforeLate l t b s n ≡ suc k → lateR (fourAt l (4 * k)) t b s ≡ false
   last-not zero k h = absurd (omega arith)
   last-not (suc n) k h = go (test (lateR (fourAt l (4 * n)) t b s)) (λ z. last-not n k z)
     where
-      go : Test (lateR (fourAt l (4 * n)) t b s) → (lastMid l t b s n ≡ suc k → lateR (fourAt l (4 * k)) t b s ≡ false) → lateR (fourAt l (4 * k)) t b s ≡ false
+      go : Test (lateR (fourAt l (4 * n)) t b s) → (beforeLate l t b s n ≡ suc k → lateR (fourAt l (4 * k)) t b s ≡ false) → lateR (fourAt l (4 * k)) t b s ≡ false
       go (yea e) f = f (rw e at h)
       go (nay e) f = let i : n ≡ k = omega (arith, rw e at h) in rw (← i) e
 
-  first-is : (n k : ℕ) → firstMid l t b s n ≡ suc k → earlyR (fourAt l (4 * k)) t b s ≡ true
+  first-is : (n k : ℕ) → afterEarly l t b s n ≡ suc k → earlyR (fourAt l (4 * k)) t b s ≡ true
   first-is zero k h = absurd (omega arith)
   first-is (suc n) k h = go (test (earlyR (fourAt l (4 * n)) t b s)) (λ z. first-is n k z)
     where
-      go : Test (earlyR (fourAt l (4 * n)) t b s) → (firstMid l t b s n ≡ suc k → earlyR (fourAt l (4 * k)) t b s ≡ true) → earlyR (fourAt l (4 * k)) t b s ≡ true
+      go : Test (earlyR (fourAt l (4 * n)) t b s) → (afterEarly l t b s n ≡ suc k → earlyR (fourAt l (4 * k)) t b s ≡ true) → earlyR (fourAt l (4 * k)) t b s ≡ true
       go (nay e) f = f (rw e at h)
       go (yea e) f = let i : n ≡ k = omega (arith, rw e at h) in rw (← i) e
 
-  pub last-end : (n i : ℕ) → i ≤ lastMid l t b s n → NotLateEnd lx (pt t b) s (Rest i (lastMid l t b s n))
+  pub last-end : (n i : ℕ) → i ≤ beforeLate l t b s n → NotLateEnd lx (pt t b) s (Rest i (beforeLate l t b s n))
   last-end n i h = ⊎-elim more same (lt-or-ge i j)
     where
       j : ℕ
-      j = lastMid l t b s n
+      j = beforeLate l t b s n
 
       more : i < j → NotLateEnd lx (pt t b) s (Rest i j)
       more k =
@@ -123,11 +123,11 @@ module _ (l : List ℤ) (t b : ℤ) (s : ℕ) where
       same : j ≤ i → NotLateEnd lx (pt t b) s (Rest i j)
       same k = subst (NotLateEnd lx (pt t b) s) (sym (ap runs (part-none l i j (omega arith)))) nil
 
-  pub first-end : (n : ℕ) → EarlyEnd lx (pt t b) s (runs (fours (firstMid l t b s n) l))
+  pub first-end : (n : ℕ) → EarlyEnd lx (pt t b) s (runs (fours (afterEarly l t b s n) l))
   first-end n = ⊎-elim more same (lt-or-ge 0 i)
     where
       i : ℕ
-      i = firstMid l t b s n
+      i = afterEarly l t b s n
 
       more : 0 < i → EarlyEnd lx (pt t b) s (runs (fours i l))
       more k =
@@ -157,15 +157,15 @@ three l i j r h k =
     (λ m. fours (e m) l) ∙ fours-add i ((j - i) + (r - j)) l
     ∙ ap (λ (x : List Four). fours i l ++ x) (fours-add (j - i) (r - j) (drop (4 * i) l) ∙ ap (λ (x : List ℤ). fours (j - i) (drop (4 * i) l) ++ fours (r - j) x) (drop-drop (4 * (j - i)) (4 * i) l ∙ ap (λ (m : ℕ). drop m l) f))
 
-on-first : (t : ℤ) (r : Four) (rs : List Rn) → On t (toRun r ∷ rs) → r .track ≡ t
+on-first : (t : ℤ) (r : Four) (rs : List Rn) → On t (runOf r ∷ rs) → r .track ≡ t
 on-first t r rs (Ot.cons e h k) = e
 
-on-last : (t : ℤ) (xs : List Rn) (r : Four) → On t (xs ++ (toRun r ∷ [])) → r .track ≡ t
+on-last : (t : ℤ) (xs : List Rn) (r : Four) → On t (xs ++ (runOf r ∷ [])) → r .track ≡ t
 on-last t [] r (Ot.cons e h k) = e
 on-last t (x ∷ xs) r (Ot.cons e h k) = on-last t xs r k
 
 pub found : (l : List ℤ) (r : ℕ) (t a b : ℤ) (s : ℕ) (W : List Four) (i j : ℕ) → _≺_ ltZ a b → OK s → 4 * r ≤ length l → K (runs (fours r l ++ W)) → Late lx (pt t b) s (runs W)
-    → j ≡ lastMid l t b s r → i ≡ firstMid l t a s j → Found l r t a b s W i j
+    → j ≡ beforeLate l t b s r → i ≡ afterEarly l t a s j → Found l r t a b s W i j
 found l r t a b s W i j lt ok len k late ej ei =
     let hj : j ≤ r = rw ej (last-le l t b s r) in
     let hi : i ≤ j = rw ei (first-le l t a s j) in
@@ -175,12 +175,12 @@ found l r t a b s W i j lt ok len k late ej ei =
     let p : fours r l ≡ pre ++ (mid ++ post) = three l i j r hi hj in
     let q : runs (fours r l ++ W) ≡ runs pre ++ (runs mid ++ runs (post ++ W)) =
     ap (λ (x : List Four). runs (x ++ W)) p ∙ ap runs (append-assoc pre (mid ++ post) W ∙ ap (λ (x : List Four). pre ++ x) (append-assoc mid post W))
-    ∙ map-append toRun pre (mid ++ (post ++ W)) ∙ ap (λ (x : List Rn). runs pre ++ x) (map-append toRun mid (post ++ W)) in
+    ∙ map-append runOf pre (mid ++ (post ++ W)) ∙ ap (λ (x : List Rn). runs pre ++ x) (map-append runOf mid (post ++ W)) in
     let lp : Late lx (pt t b) s (runs post) = subst (λ (m : ℕ). Late lx (pt t b) s (runs (fours (r - m) (drop (4 * m) l)))) (sym ej) (last-late l t b s r) in
-    let la : Late lx (pt t b) s (runs (post ++ W)) = subst (Late lx (pt t b) s) (sym (map-append toRun post W)) (late-append lx (runs W) lp late) in
+    let la : Late lx (pt t b) s (runs (post ++ W)) = subst (Late lx (pt t b) s) (sym (map-append runOf post W)) (late-append lx (runs W) lp late) in
     let ee : EarlyEnd lx (pt t a) s (runs pre) = subst (λ (m : ℕ). EarlyEnd lx (pt t a) s (runs (fours m l))) (sym ei) (first-end l t a s j) in
     let ne : NotEarly lx (pt t a) s (runs mid) = subst (λ (m : ℕ). NotEarly lx (pt t a) s (runs (fours (j - m) (drop (4 * m) l)))) (sym ei) (first-none l t a s j) in
-    let hi′ : i ≤ lastMid l t b s r = rw (← ej) hi in
+    let hi′ : i ≤ beforeLate l t b s r = rw (← ej) hi in
     let nl : NotLateEnd lx (pt t b) s (runs mid) = subst (λ (m : ℕ). NotLateEnd lx (pt t b) s (runs (fours (m - i) (drop (4 * i) l)))) (sym ej) (last-end l t b s r i hi′) in
     let c = Ot.split a b s lt ok t (runs pre) (runs mid) (runs (post ++ W)) (subst K q k) ee ne nl la in
     let h : H a b s t (runs (fours r l ++ W)) ≡ runs mid = ap (H a b s t) q ∙ c .0 in

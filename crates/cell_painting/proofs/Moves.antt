@@ -1,4 +1,4 @@
--- What moving records does to a list with a gap, and the two ends of `step`.
+-- What moving records does to a list with a gap, and the two ends of a step.
 use mathlib.Core.Path.{_≡_, refl, sym, ap, _∙_, subst}
 use mathlib.Core.Bool.{Bool, true, false, not, cond, _||_}
 use mathlib.Core.List.{List, [], _∷_, _++_, append-assoc}
@@ -21,7 +21,7 @@ use Rattle.intervals.proofs.Tracks as Tr
 use Rattle.flat_records.specs.Fours.{Four, enc, fours}
 use Rattle.flat_records.proofs.Parts.{drop-paste-at, drop-paste-past}
 use Rattle.flat_records.proofs.Fours.{fours-paste, enc-fours, length-fours}
-use Rattle.cell_painting.specs.Reach.{runs, toRun, lastMid, firstMid, Pieced, Tags, OnTrack}
+use Rattle.cell_painting.specs.Reach.{runs, runOf, Tags, Apart, Reaches}
 use Rattle.cell_painting.proofs.Build.{map-append}
 use Rattle.cell_painting.proofs.Found.{Found, found, fours-add}
 use Rattle.cell_painting.specs.Passes.{Good, Above, Gapped, Stepped, stepped, held}
@@ -51,12 +51,21 @@ module _ (d y x : List ℤ) (p m at n : ℕ) (ea : at ≡ 4 * p) (en : n ≡ 4 *
       let l : m ≡ length (fours m y) = sym (length-fours m y) in
       (λ i. fours (l i + q) ((a ∙ (λ j. b j ++ drop (c j) d)) i)) ∙ enc-rest (fours m y) q (drop (4 * (p + m)) d)
 
-pub chosen : (all : Bool) (a b : ℤ) (s : ℕ) (t : ℤ) (rs : List Rn) (n k : ℕ) (f : Bool) → length (N a b s t rs) ≡ n → length (H a b s t rs) ≡ k → f ≡ (all || leb n k)
-    → stepped all a b s t rs ≡ cond f (P a b s t rs) rs
-chosen all a b s t rs n k f en ek ef = (λ i. cond (all || leb (en i) (ek i)) (P a b s t rs) rs) ∙ sym (ap (λ (g : Bool). cond g (P a b s t rs) rs) ef)
+-- the records that the paint of a track does not reach are off it
+pub s-apart : {a b s t : ℤ} {l : List ℤ} {r w top : ℕ} → Gapped l r w top → Good a b s → Late lx (pt t b) (ofZ w16 s) (runs (fours (top - w) (drop (4 * w) l))) → Apart l r t a b (ofZ w16 s)
+s-apart {a} {b} {s} {t} {l} {r} {w} {top} g good late =
+    (found l r t a b (ofZ w16 s) (fours (top - w) (drop (4 * w) l)) _ _ (good .less) (good .state) (omega (arith, g .low, g .high, g .room)) (g .keep) late refl refl) .on
+
+-- where a step stands: the records i..j are reached, those before r are left, and those from w to top are behind the gap
+pub record Within (l : List ℤ) (r w top i j : ℕ) : Type 0 where
+  pub first : i ≤ j
+  pub past : j ≤ r
+  pub low : r ≤ w
+  pub high : w ≤ top
+  pub room : 4 * top ≤ length l
 
 module _ (all : Bool) {a b s t : ℤ} {l : List ℤ} {r w top : ℕ} (g : Gapped l r w top) (good : Good a b s)
-    (late : Late lx (pt t b) (ofZ w16 s) (runs (fours (top - w) (drop (4 * w) l)))) (i j : ℕ) (ej : j ≡ lastMid l t b (ofZ w16 s) r) (ei : i ≡ firstMid l t a (ofZ w16 s) j) where
+    (late : Late lx (pt t b) (ofZ w16 s) (runs (fours (top - w) (drop (4 * w) l)))) {i j n : ℕ} {put : List ℤ} (q : Reaches l r t a b (ofZ w16 s) i j n put) where
   abbrev σ : ℕ
   σ = ofZ w16 s
 
@@ -72,25 +81,35 @@ module _ (all : Bool) {a b s t : ℤ} {l : List ℤ} {r w top : ℕ} (g : Gapped
   abbrev post : List Four
   post = fours (r - j) (drop (4 * j) l)
 
-  pub s-found : Found l r t a b σ W i j
-  s-found = found l r t a b σ W i j (good .less) (good .state) (omega (arith, g .low, g .high, g .room)) (g .keep) late ej ei
+  abbrev rs : List Rn
+  rs = held l r w top
+
+  s-found : Found l r t a b σ W i j
+  s-found = found l r t a b σ W i j (good .less) (good .state) (omega (arith, g .low, g .high, g .room)) (g .keep) late (q .past) (q .first)
+
+  pub s-within : Within l r w top i j
+  s-within = record { first = s-found .low; past = s-found .high; low = g .low; high = g .high; room = g .room }
 
   whole : fours r l ++ W ≡ pre ++ (mid ++ (post ++ W))
   whole = ap (λ (x : List Four). x ++ W) (s-found .parts) ∙ append-assoc pre (mid ++ post) W ∙ ap (λ (x : List Four). pre ++ x) (append-assoc mid post W)
 
-  pub hits : length (H a b σ t (held l r w top)) ≡ j - i
+  hits : length (H a b σ t rs) ≡ j - i
   hits = ap length (s-found .hits) ∙ length-runs mid ∙ length-fours (j - i) (drop (4 * i) l)
 
-  pub news : (put : List Four) → Pieced t a b σ mid put → length (N a b σ t (held l r w top)) ≡ length put
-  news put p = ap (λ (x : List Rn). length (new lx (pt t a) (pt t b) σ x)) (s-found .hits) ∙ sym (ap length (p .is)) ∙ length-runs put
+  news : length (N a b σ t rs) ≡ n
+  news = ap (λ (x : List Rn). length (new lx (pt t a) (pt t b) σ x)) (s-found .hits) ∙ sym (ap length (q .become .is)) ∙ length-runs (fours n put) ∙ length-fours n put
 
-  painted : (put : List Four) → Pieced t a b σ mid put → P a b σ t (held l r w top) ≡ runs (pre ++ (put ++ (post ++ W)))
-  painted put p =
-      s-found .paints ∙ (λ k. runs pre ++ (sym (p .is) k ++ runs (post ++ W)))
-      ∙ ap (λ (x : List Rn). runs pre ++ x) (sym (map-append toRun put (post ++ W))) ∙ sym (map-append toRun pre (put ++ (post ++ W)))
+  painted : P a b σ t rs ≡ runs (pre ++ (fours n put ++ (post ++ W)))
+  painted =
+      s-found .paints ∙ (λ k. runs pre ++ (sym (q .become .is) k ++ runs (post ++ W)))
+      ∙ ap (λ (x : List Rn). runs pre ++ x) (sym (map-append runOf (fours n put) (post ++ W))) ∙ sym (map-append runOf pre (fours n put ++ (post ++ W)))
+
+  -- the track is painted, or not, as f says
+  chosen : (f : Bool) → f ≡ (all || leb n (j - i)) → stepped all a b σ t rs ≡ cond f (P a b σ t rs) rs
+  chosen f e = (λ k. cond (all || leb (news k) (hits k)) (P a b σ t rs) rs) ∙ sym (ap (λ (c : Bool). cond c (P a b σ t rs) rs) e)
 
   -- the records that are behind go up
-  module _ (x : List ℤ) (e : x ≡ paste l (4 * j + 4 * (w - r)) (drop (4 * j) l) (4 * r - 4 * j)) where
+  module _ (x : List ℤ) (e : x ≡ paste l (4 * j + 4 * (w - r)) (drop (4 * j) l) (4 * r - 4 * j)) (f : Bool) (ef : f ≡ (all || leb n (j - i))) where
     abbrev v : ℕ
     v = w - (r - j)
 
@@ -112,14 +131,14 @@ module _ (all : Bool) {a b s t : ℤ} {l : List ℤ} {r w top : ℕ} (g : Gapped
     up-pre : (c : ℕ) → c ≤ j → fours c x ≡ fours c l
     up-pre c h = m-pre l (drop (4 * j) l) x v (r - j) (4 * j + 4 * (w - r)) (4 * r - 4 * j) ha hb hc hd e c (omega (arith, s-found .high, g .low))
 
-    up-tail : drop (4 * top) x ≡ drop (4 * top) l
-    up-tail = m-past l (drop (4 * j) l) x v (r - j) (4 * j + 4 * (w - r)) (4 * r - 4 * j) ha hb hc hd e top (omega (arith, s-found .high, g .low, g .high))
+    up-tail : drop (4 * w) x ≡ drop (4 * w) l
+    up-tail = m-past l (drop (4 * j) l) x v (r - j) (4 * j + 4 * (w - r)) (4 * r - 4 * j) ha hb hc hd e w (omega (arith, s-found .high, g .low))
 
     up-post : fours (top - v) (drop (4 * v) x) ≡ post ++ W
     up-post =
-        let q : top - v ≡ (r - j) + (top - w) = omega (arith, s-found .high, g .low, g .high) in
+        let h : top - v ≡ (r - j) + (top - w) = omega (arith, s-found .high, g .low, g .high) in
         let z : v + (r - j) ≡ w = omega (arith, s-found .high, g .low) in
-        (λ k. fours (q k) (drop (4 * v) x)) ∙ m-post l (drop (4 * j) l) x v (r - j) (4 * j + 4 * (w - r)) (4 * r - 4 * j) ha hb hc hd e (top - w)
+        (λ k. fours (h k) (drop (4 * v) x)) ∙ m-post l (drop (4 * j) l) x v (r - j) (4 * j + 4 * (w - r)) (4 * r - 4 * j) ha hb hc hd e (top - w)
         ∙ ap (λ (m : ℕ). post ++ fours (top - w) (drop (4 * m) l)) z
 
     up-all : fours j x ++ fours (top - v) (drop (4 * v) x) ≡ fours r l ++ W
@@ -127,8 +146,8 @@ module _ (all : Bool) {a b s t : ℤ} {l : List ℤ} {r w top : ℕ} (g : Gapped
         (λ k. up-pre j (omega arith) k ++ up-post k) ∙ ap (λ (z : List Four). z ++ (post ++ W)) (halves l j i (s-found .low)) ∙ append-assoc pre mid (post ++ W) ∙ sym whole
 
     -- nothing is painted
-    pub left-alone : (f : Bool) → f ≡ false → stepped all a b σ t (held l r w top) ≡ cond f (P a b σ t (held l r w top)) (held l r w top) → Stepped all a b s t l r w top x j v
-    left-alone f ef c = record {
+    pub left-alone : f ≡ false → Stepped all a b s t l r w top x j v
+    left-alone left = record {
       gapped = record {
         low = omega (arith, s-found .high, g .low);
         high = omega (arith, g .high);
@@ -138,20 +157,19 @@ module _ (all : Bool) {a b s t : ℤ} {l : List ℤ} {r w top : ℕ} (g : Gapped
       };
       long = up-long;
       tail = up-tail;
-      is = ap runs up-all ∙ sym (c ∙ ap (λ (z : Bool). cond z (P a b σ t (held l r w top)) (held l r w top)) ef);
+      is = ap runs up-all ∙ sym (chosen f ef ∙ ap (λ (z : Bool). cond z (P a b σ t rs) rs) left);
       above = subst (Above t) (sym up-post) (late-above t b σ (post ++ W) (s-found .behind));
     }
 
     -- the track is painted
-    module _ (n : ℕ) (put : List ℤ) (hn : n ≤ 3) (lp : length put ≡ 12) (p : Pieced t a b σ mid (fours n put)) (f : Bool) (ef : f ≡ true)
-        (c : stepped all a b σ t (held l r w top) ≡ cond f (P a b σ t (held l r w top)) (held l r w top)) (room : length (stepped all a b σ t (held l r w top)) ≤ top) where
-      is-P : stepped all a b σ t (held l r w top) ≡ P a b σ t (held l r w top)
-      is-P = c ∙ ap (λ (z : Bool). cond z (P a b σ t (held l r w top)) (held l r w top)) ef
+    module _ (taken : f ≡ true) (room : length (stepped all a b σ t rs) ≤ top) where
+      is-P : stepped all a b σ t rs ≡ P a b σ t rs
+      is-P = chosen f ef ∙ ap (λ (z : Bool). cond z (P a b σ t rs) rs) taken
 
       pub fits : i + n ≤ v
       fits =
-          let q : length (P a b σ t (held l r w top)) ≡ i + (n + ((r - j) + (top - w))) =
-          ap length (painted (fours n put) p) ∙ length-runs (pre ++ (fours n put ++ (post ++ W))) ∙ length-append pre (fours n put ++ (post ++ W))
+          let h : length (P a b σ t rs) ≡ i + (n + ((r - j) + (top - w))) =
+          ap length painted ∙ length-runs (pre ++ (fours n put ++ (post ++ W))) ∙ length-append pre (fours n put ++ (post ++ W))
           ∙ (λ k. length-fours i l k + (length-append (fours n put) (post ++ W) ∙ (λ z. length-fours n put z + (length-append post W ∙ (λ y. length-fours (r - j) (drop (4 * j) l) y + length-fours (top - w) (drop (4 * w) l) y)) z)) k) in
           omega (arith, ap length is-P, s-found .high, g .low, g .high)
 
@@ -160,23 +178,23 @@ module _ (all : Bool) {a b s t : ℤ} {l : List ℤ} {r w top : ℕ} (g : Gapped
         hx = omega (arith, fits, up-long, g .low, g .high, g .room)
 
         hp : 4 * n ≤ length put
-        hp = omega arith
+        hp = omega (arith, q .few, q .long)
 
         y-pre : fours i y ≡ pre
         y-pre = m-pre x put y (v - n) n (4 * (v - n)) (4 * n) refl refl hx hp e′ i (omega (arith, fits)) ∙ up-pre i (s-found .low)
 
         y-post : fours (top - (v - n)) (drop (4 * (v - n)) y) ≡ fours n put ++ (post ++ W)
         y-post =
-            let q : top - (v - n) ≡ n + (top - v) = omega (arith, fits, g .high) in
+            let h : top - (v - n) ≡ n + (top - v) = omega (arith, fits, g .high) in
             let z : v - n + n ≡ v = omega (arith, fits) in
-            (λ k. fours (q k) (drop (4 * (v - n)) y)) ∙ m-post x put y (v - n) n (4 * (v - n)) (4 * n) refl refl hx hp e′ (top - v)
+            (λ k. fours (h k) (drop (4 * (v - n)) y)) ∙ m-post x put y (v - n) n (4 * (v - n)) (4 * n) refl refl hx hp e′ (top - v)
             ∙ ap (λ (m : ℕ). fours n put ++ fours (top - v) (drop (4 * m) x)) z ∙ ap (λ (m : List Four). fours n put ++ m) up-post
 
         y-all : fours i y ++ fours (top - (v - n)) (drop (4 * (v - n)) y) ≡ pre ++ (fours n put ++ (post ++ W))
         y-all = λ k. y-pre k ++ y-post k
 
-        y-is : held y i (v - n) top ≡ P a b σ t (held l r w top)
-        y-is = ap runs y-all ∙ sym (painted (fours n put) p)
+        y-is : held y i (v - n) top ≡ P a b σ t rs
+        y-is = ap runs y-all ∙ sym painted
 
         pub painted-up : Stepped all a b s t l r w top y i (v - n)
         painted-up = record {
@@ -185,12 +203,12 @@ module _ (all : Bool) {a b s t : ℤ} {l : List ℤ} {r w top : ℕ} (g : Gapped
             high = omega (arith, g .high);
             room = omega (arith, y-long, up-long, g .room);
             keep = subst K (sym y-is) (Tr.P-keep a b σ (good .less) (good .state) t (g .keep));
-            tags = subst Tags (sym y-all) (tags-append (fours n put ++ (post ++ W)) (tags-l pre (mid ++ (post ++ W)) tagged) (tags-append (post ++ W) (p .tags) (tags-r mid (post ++ W) (tags-r pre (mid ++ (post ++ W)) tagged))));
+            tags = subst Tags (sym y-all) (tags-append (fours n put ++ (post ++ W)) (tags-l pre (mid ++ (post ++ W)) tagged) (tags-append (post ++ W) (q .become .tags) (tags-r mid (post ++ W) (tags-r pre (mid ++ (post ++ W)) tagged))));
           };
           long = y-long ∙ up-long;
-          tail = m-past x put y (v - n) n (4 * (v - n)) (4 * n) refl refl hx hp e′ top (omega (arith, fits, g .high)) ∙ up-tail;
+          tail = m-past x put y (v - n) n (4 * (v - n)) (4 * n) refl refl hx hp e′ w (omega (arith, fits)) ∙ up-tail;
           is = y-is ∙ sym is-P;
-          above = subst (Above t) (sym y-post) (above-append (post ++ W) (lo-above (p .los)) (late-above t b σ (post ++ W) (s-found .behind)));
+          above = subst (Above t) (sym y-post) (above-append (post ++ W) (lo-above (q .become .los)) (late-above t b σ (post ++ W) (s-found .behind)));
         }
           where
             y-long : length y ≡ length x
@@ -198,22 +216,6 @@ module _ (all : Bool) {a b s t : ℤ} {l : List ℤ} {r w top : ℕ} (g : Gapped
 
             tagged : Tags (pre ++ (mid ++ (post ++ W)))
             tagged = subst Tags whole (g .tags)
-
--- ---- what callees say of their arguments as read back
-abbrev ζ : ℤ → ℤ
-ζ z = toZ w16 (ofZ w16 z)
-
-pub last16 : (l : List ℤ) {t b s : ℤ} (r : ℕ) {j : ℕ} → SFits w16 t → SFits w16 b → SFits w16 s → j ≡ lastMid l (ζ t) (ζ b) (ofZ w16 (ζ s)) r → j ≡ lastMid l t b (ofZ w16 s) r
-last16 l r f g h e = rw (toZ-ofZ f, toZ-ofZ g, toZ-ofZ h) at e
-
-pub first16 : (l : List ℤ) {t b s : ℤ} (r : ℕ) {j : ℕ} → SFits w16 t → SFits w16 b → SFits w16 s → j ≡ firstMid l (ζ t) (ζ b) (ofZ w16 (ζ s)) r → j ≡ firstMid l t b (ofZ w16 s) r
-first16 l r f g h e = rw (toZ-ofZ f, toZ-ofZ g, toZ-ofZ h) at e
-
-pub piece16 : {t a b s : ℤ} {mid put : List Four} → SFits w16 t → SFits w16 a → SFits w16 b → SFits w16 s → Pieced (ζ t) (ζ a) (ζ b) (ofZ w16 (ζ s)) mid put → Pieced t a b (ofZ w16 s) mid put
-piece16 f g h k e = rw (toZ-ofZ f, toZ-ofZ g, toZ-ofZ h, toZ-ofZ k) at e
-
-pub on16 : {l : List ℤ} {i j : ℕ} {t : ℤ} → SFits w16 t → OnTrack l i j t → OnTrack l i j (ζ t)
-on16 f e = rw (toZ-ofZ f) e
 
 -- what is pasted where it was changes nothing
 pub paste-self : (l : List ℤ) (from at m : ℕ) → at ≡ from → l ≡ paste l at (drop from l) m

@@ -23,9 +23,16 @@ use Rattle.flat_records.proofs.Parts.{drop-replicate}
 use Rattle.flat_records.proofs.Fours.{enc-fours, length-fours, wiped, fours-enc, laid-padded, length-padded}
 use Rattle.cell_painting.specs.Reach.{runs, Tags}
 use Rattle.cell_painting.specs.Passes.{Good, Above, nil, Gapped, Stepped, stepped, held, Ready, Roomy, Swept}
+use Rattle.cell_painting.proofs.Bits.{ζ}
 use Rattle.cell_painting.proofs.Above.{above-late}
 use Rattle.cell_painting.proofs.Count.{halves, suc-of}
 use Rattle.cell_painting.proofs.Moves.{m-long, m-pre, m-past, m-post}
+
+-- lists that agree from a record on agree from a later one on
+drop-later : (l x : List ℤ) (w z : ℕ) → w ≤ z → drop (4 * w) x ≡ drop (4 * w) l → drop (4 * z) x ≡ drop (4 * z) l
+drop-later l x w z h e =
+    let k : 4 * w + (4 * z - 4 * w) ≡ 4 * z = omega arith in
+    ap (λ (m : ℕ). drop m x) (sym k) ∙ sym (drop-drop (4 * z - 4 * w) (4 * w) x) ∙ ap (drop (4 * z - 4 * w)) e ∙ drop-drop (4 * z - 4 * w) (4 * w) l ∙ ap (λ (m : ℕ). drop m l) k
 
 pub record SInv (all : Bool) (l : List ℤ) (used top : ℕ) (t₁ t₂ a b s : ℤ) (list : List ℤ) (r w : ℕ) (t : ℤ) : Type 0 where
   pub ready : Ready l used top
@@ -77,7 +84,7 @@ module _ {all : Bool} {l : List ℤ} {used top : ℕ} {t₁ t₂ a b s : ℤ} {l
       roomy = v .roomy;
       gapped = q .gapped;
       long = q .long ∙ v .long;
-      tail = q .tail ∙ v .tail;
+      tail = drop-later list x w top (v .gapped .high) (q .tail) ∙ v .tail;
       is = q .is ∙ next-is;
       above = q .above;
       low = omega signed;
@@ -138,9 +145,6 @@ module _ {all : Bool} {l : List ℤ} {used top : ℕ} {t₁ t₂ a b s : ℤ} {l
           is = ap runs A ∙ v .is ∙ ap (λ (u : ℤ). sw all a b (ofZ w16 s) (span u t₂) (runs (fours used l))) et;
           tags = subst Tags (sym A) (g .tags);
         }
-
-abbrev ζ : ℤ → ℤ
-ζ z = toZ w16 (ofZ w16 z)
 
 pub roomy-back : {all : Bool} {a b s t₁ t₂ : ℤ} {top : ℕ} {rs : List Rn} → SFits w16 a → SFits w16 b → SFits w16 s → SFits w16 t₁ → SFits w16 t₂ → Roomy all a b s t₁ t₂ top rs → Roomy all (ζ a) (ζ b) (ζ s) (ζ t₁) (ζ t₂) top rs
 roomy-back f g h k m r = rw (toZ-ofZ f, toZ-ofZ g, toZ-ofZ h, toZ-ofZ k, toZ-ofZ m) r

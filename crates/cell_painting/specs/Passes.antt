@@ -46,7 +46,7 @@ stepped all a b s t rs = cond (all || leb (length (N a b s t rs)) (length (H a b
 pub record Stepped (all : Bool) (a b s t : ℤ) (l : List ℤ) (r w top : ℕ) (x : List ℤ) (r′ w′ : ℕ) : Type 0 where
   pub gapped : Gapped x r′ w′ top
   pub long : length x ≡ length l
-  pub tail : drop (4 * top) x ≡ drop (4 * top) l
+  pub tail : drop (4 * w) x ≡ drop (4 * w) l
   pub is : held x r′ w′ top ≡ stepped all a b (ofZ w16 s) t (held l r w top)
   pub above : Above t (fours (top - w′) (drop (4 * w′) x))
 

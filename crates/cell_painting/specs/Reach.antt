@@ -2,9 +2,9 @@
 use mathlib.Core.Path.{_≡_}
 use mathlib.Core.Bool.{Bool, true, false, not, cond}
 use mathlib.Core.List.{List, [], _∷_, _++_, map}
-use Prim.Native.Nat.{ℕ, zero, suc, _+_, _-_, _*_, _<_}
+use Prim.Native.Nat.{ℕ, zero, suc, _+_, _-_, _*_, _<_, _≤_}
 use lib.IntN.{ℤ, pos}
-use lib.ListN.{drop, getD}
+use lib.ListN.{drop, getD, length}
 use lib.Dec.{eqb}
 use lib.Signed.{ltZ}
 use mir.Syntax.{w16}
@@ -14,11 +14,11 @@ use Rattle.flat_records.specs.Fours.{Four, fourAt, fours}
 use Rattle.intervals.specs.Cut.{gapb, new, lx, Rn}
 
 -- a state is told apart by its bits, as code tells it
-abbrev pub toRun : Four → Rn
-toRun r = run (pt (r .track) (r .start)) (pt (r .track) (r .end)) (ofZ w16 (r .state))
+abbrev pub runOf : Four → Rn
+runOf r = run (pt (r .track) (r .start)) (pt (r .track) (r .end)) (ofZ w16 (r .state))
 
 abbrev pub runs : List Four → List Rn
-runs rs = map toRun rs
+runs rs = map runOf rs
 
 -- the record ends before the interval from a on, on track t
 abbrev pub earlyR : Four → ℤ → ℤ → ℕ → Bool
@@ -29,14 +29,14 @@ abbrev pub lateR : Four → ℤ → ℤ → ℕ → Bool
 lateR r t b s = gapb lx (pt t b) s (pt (r .track) (r .start)) (ofZ w16 (r .state))
 
 -- of the first n records: how many there are before those at the end that are late
-abbrev pub lastMid : List ℤ → ℤ → ℤ → ℕ → ℕ → ℕ
-lastMid l t b s zero = zero
-lastMid l t b s (suc i) = cond (lateR (fourAt l (4 * i)) t b s) (lastMid l t b s i) (suc i)
+abbrev pub beforeLate : List ℤ → ℤ → ℤ → ℕ → ℕ → ℕ
+beforeLate l t b s zero = zero
+beforeLate l t b s (suc i) = cond (lateR (fourAt l (4 * i)) t b s) (beforeLate l t b s i) (suc i)
 
 -- of the first n records: how many there are up to the last that is early
-abbrev pub firstMid : List ℤ → ℤ → ℤ → ℕ → ℕ → ℕ
-firstMid l t a s zero = zero
-firstMid l t a s (suc i) = cond (earlyR (fourAt l (4 * i)) t a s) (suc i) (firstMid l t a s i)
+abbrev pub afterEarly : List ℤ → ℤ → ℤ → ℕ → ℕ → ℕ
+afterEarly l t a s zero = zero
+afterEarly l t a s (suc i) = cond (earlyR (fourAt l (4 * i)) t a s) (suc i) (afterEarly l t a s i)
 
 -- where the painted run starts, and whether something is left before it: c and v are the start and the state of the first record that is reached
 abbrev pub startOf : ℤ → ℕ → ℤ → ℕ → ℤ
@@ -78,3 +78,15 @@ pub record Built (t c v d z a b s : ℤ) (put : List Four) : Type 0 where
 pub record OnTrack (l : List ℤ) (i j : ℕ) (t : ℤ) : Type 0 where
   pub first : i < j → getD l (4 * i) (pos 0) ≡ t
   pub last : i < j → getD l (4 * (j - 1)) (pos 0) ≡ t
+
+-- of the first n records, those that are neither late nor early are on the track: so it is where the records keep the rules
+abbrev pub Apart : List ℤ → ℕ → ℤ → ℤ → ℤ → ℕ → Type 0
+Apart l n t a b s = OnTrack l (afterEarly l t a s (beforeLate l t b s n)) (beforeLate l t b s n) t
+
+-- of the first n records, those from i on below j are reached, and the first m of `put` are what becomes of them
+pub record Reaches (l : List ℤ) (n : ℕ) (t a b : ℤ) (s : ℕ) (i j m : ℕ) (put : List ℤ) : Type 0 where
+  pub past : j ≡ beforeLate l t b s n
+  pub first : i ≡ afterEarly l t a s j
+  pub few : m ≤ 3
+  pub long : length put ≡ 12
+  pub become : Pieced t a b s (fours (j - i) (drop (4 * i) l)) (fours m put)

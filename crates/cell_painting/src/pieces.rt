@@ -5,8 +5,10 @@ ghost use lib.ListN.{length, drop};
 ghost use mir.Val.{ofZ};
 ghost use mir.Syntax.{w16};
 ghost use Rattle.flat_records.specs.Fours.{fours};
-ghost use Rattle.cell_painting.specs.Reach.{startOf, leftOf, endOf, rightOf, Pieced, Built, OnTrack};
+ghost use Rattle.cell_painting.specs.Reach.{Apart, Reaches, startOf, leftOf, endOf, rightOf, Pieced, Built, OnTrack};
 ghost use mathlib.Core.Bool.{false};
+use crate::reach::after_early;
+use crate::reach::before_late;
 
 // Where the painted run starts.
 fn start_of(c: i16, v: i16, a: i16, s: i16) -> i16
@@ -104,4 +106,30 @@ pub fn cut_out(list: &[i16], i: usize, j: usize, t: i16, a: i16, b: i16, s: i16)
     let d = list[4 * (j - 1) + 2];
     let z = list[4 * (j - 1) + 3];
     build(t, c, v, d, z, a, b, s)
+}
+
+// Which of the first n records the paint of one track reaches, first..past, and what becomes of them: the first `new` records of `put`.
+pub struct Reached {
+    pub first: usize,
+    pub past: usize,
+    pub new: usize,
+    pub put: [i16; 12],
+}
+
+pub fn cut_track(list: &[i16], n: usize, t: i16, a: i16, b: i16, s: i16) -> Reached
+    requires { ⌜ 4 * n ≤ length (now list) ⌝ }
+    requires { ⌜ Apart (now list) n t a b (ofZ w16 s) ⌝ }
+    ensures { λ r. ⌜ Reaches (now (list .entry)) n t a b (ofZ w16 s) (r .first) (r .past) (r .new) (r .put) ⌝ }
+{
+    let past = before_late(list, n, t, b, s);
+    let first = after_early(list, past, t, a, s);
+    let piece = cut_out(list, first, past, t, a, b, s);
+    let new = piece.new;
+    let put = piece.put;
+    Reached {
+        first: first,
+        past: past,
+        new: new,
+        put: put,
+    }
 }

@@ -7,7 +7,7 @@ ghost use mir.Syntax.{w16};
 ghost use Rattle.intervals.specs.Paint.{pt};
 ghost use Rattle.flat_records.specs.Fours.{fourAt};
 ghost use Rattle.intervals.specs.Cut.{gapb, lx};
-ghost use Rattle.cell_painting.specs.Reach.{earlyR, lateR, lastMid, firstMid};
+ghost use Rattle.cell_painting.specs.Reach.{earlyR, lateR, beforeLate, afterEarly};
 ghost use mathlib.Core.Bool.{true, false};
 
 // Reading order: by track, then position.
@@ -56,9 +56,9 @@ pub fn late(list: &[i16], at: usize, t: i16, b: i16, s: i16) -> bool
     gap(t, b, s, u, c, v)
 }
 
-pub fn last_mid(list: &[i16], n: usize, t: i16, b: i16, s: i16) -> usize
+pub fn before_late(list: &[i16], n: usize, t: i16, b: i16, s: i16) -> usize
     requires { ⌜ 4 * n ≤ length (now list) ⌝ }
-    ensures { λ r. ⌜ r ≡ lastMid (now (list .entry)) t b (ofZ w16 s) n ⌝ }
+    ensures { λ r. ⌜ r ≡ beforeLate (now (list .entry)) t b (ofZ w16 s) n ⌝ }
 {
     let mut i = n;
     while 0 < i {
@@ -71,9 +71,9 @@ pub fn last_mid(list: &[i16], n: usize, t: i16, b: i16, s: i16) -> usize
     0
 }
 
-pub fn first_mid(list: &[i16], n: usize, t: i16, a: i16, s: i16) -> usize
+pub fn after_early(list: &[i16], n: usize, t: i16, a: i16, s: i16) -> usize
     requires { ⌜ 4 * n ≤ length (now list) ⌝ }
-    ensures { λ r. ⌜ r ≡ firstMid (now (list .entry)) t a (ofZ w16 s) n ⌝ }
+    ensures { λ r. ⌜ r ≡ afterEarly (now (list .entry)) t a (ofZ w16 s) n ⌝ }
 {
     let mut i = n;
     while 0 < i {

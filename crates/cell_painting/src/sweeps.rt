@@ -14,9 +14,7 @@ ghost use lib.Dec.{leb};
 ghost use lib.Seq.{paste};
 ghost use Rattle.intervals.proofs.Split.{Late};
 ghost use Rattle.cell_painting.specs.Passes.{Good, Gapped, Stepped, stepped, held, Ready, Roomy, Swept};
-use crate::pieces::cut_out;
-use crate::reach::first_mid;
-use crate::reach::last_mid;
+use crate::pieces::cut_track;
 use flat_records::move_down;
 use flat_records::move_up;
 use flat_records::put_in;
@@ -81,11 +79,11 @@ pub fn step(
     requires { ⌜ length (stepped all a b (ofZ w16 s) t (held (now list) r w top)) ≤ top ⌝ }
     ensures { λ q. ⌜ Stepped all a b s t (now (list .entry)) r w top (now (list .exit)) (q .r) (q .w) ⌝ }
 {
-    let j = last_mid(list, r, t, b, s);
-    let i = first_mid(list, j, t, a, s);
-    let p = cut_out(list, i, j, t, a, b, s);
-    let n = p.new;
-    let put = p.put;
+    let found = cut_track(list, r, t, a, b, s);
+    let i = found.first;
+    let j = found.past;
+    let n = found.new;
+    let put = found.put;
     lift(list, 4 * j, 4 * r, 4 * (w - r));
     let v = w - (r - j);
     if wanted(all, n, j - i) {

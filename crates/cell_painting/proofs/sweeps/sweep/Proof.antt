@@ -6,7 +6,7 @@ use mir.Val.{toZ, ofZ}
 use mir.Facts.{toZ-ofZ}
 use Rattle.signed.proofs.Laws.{signed, rng}
 use Rattle.signed.specs.Parts.{gap}
-use Rattle.cell_painting.proofs.Count.{good-back, lt16-back}
+use Rattle.cell_painting.proofs.Bits.{good-back, lt16-back}
 use Rattle.cell_painting.proofs.Sweep.{SInv, s-start, s-late, s-room, s-next, s-done, down-long, roomy-back, swept-plain}
 use borrow.Author.Needs.{needs}
 use Rattle.cell_painting.proofs.sweeps.sweep.Statement.{statement}

@@ -14,17 +14,17 @@ use Rattle.intervals.specs.Paint.{pt}
 use Rattle.intervals.specs.Cut.{gapb, lx}
 use Rattle.flat_records.proofs.Parts.{same16}
 use Rattle.flat_records.specs.Fours.{fourAt}
-use Rattle.cell_painting.specs.Reach.{lastMid, firstMid, lateR, earlyR}
+use Rattle.cell_painting.specs.Reach.{beforeLate, afterEarly, lateR, earlyR}
 use Rattle.cell_painting.proofs.Bits.{lt16, last-yes, last-no, first-yes, first-no}
 use borrow.Author.Needs.{needs}
-use Rattle.cell_painting.proofs.reach.first_mid.Statement.{statement}
-use Rattle.cell_painting.proofs.reach.first_mid.Tie as tie
-use Rattle.cell_painting.proofs.reach.first_mid.Reads as reads
-use Rattle.cell_painting.proofs.reach.first_mid.Lts as lts
+use Rattle.cell_painting.proofs.reach.after_early.Statement.{statement}
+use Rattle.cell_painting.proofs.reach.after_early.Tie as tie
+use Rattle.cell_painting.proofs.reach.after_early.Reads as reads
+use Rattle.cell_painting.proofs.reach.after_early.Lts as lts
 use Rattle.cell_painting.proofs.reach.early.Reads as early-reads
 
 abbrev Inv-loop : tie.InvT-loop
-Inv-loop list n t a s i₀ i = (i ≤ n) × (firstMid list (toZ w16 t) (toZ w16 a) (ofZ w16 (toZ w16 s)) n ≡ firstMid list (toZ w16 t) (toZ w16 a) (ofZ w16 (toZ w16 s)) i)
+Inv-loop list n t a s i₀ i = (i ≤ n) × (afterEarly list (toZ w16 t) (toZ w16 a) (ofZ w16 (toZ w16 s)) n ≡ afterEarly list (toZ w16 t) (toZ w16 a) (ofZ w16 (toZ w16 s)) i)
 
 abbrev μ-loop : tie.MeasureT-loop
 μ-loop list n t a s i₀ i = i
@@ -50,7 +50,7 @@ returns : tie.Need-returns Inv-loop μ-loop
 returns c =
     let l = c .before .before .before in
     let s = l .before in
-    sym ((λ i. firstMid (s .args .list .now) (sym (toZ-ofZ (s .fits .t)) i) (sym (toZ-ofZ (s .fits .a)) i) (ofZ w16 (sym (toZ-ofZ (s .fits .s)) i)) (s .args .n)) ∙ l .loop .inv .1 ∙ first-yes _ _ _ _ (l .loop .i) (l .loop .i - 1) (omega arith) (sym (c .before .early .ensures) ∙ c .if1 .taken))
+    sym ((λ i. afterEarly (s .args .list .now) (sym (toZ-ofZ (s .fits .t)) i) (sym (toZ-ofZ (s .fits .a)) i) (ofZ w16 (sym (toZ-ofZ (s .fits .s)) i)) (s .args .n)) ∙ l .loop .inv .1 ∙ first-yes _ _ _ _ (l .loop .i) (l .loop .i - 1) (omega arith) (sym (c .before .early .ensures) ∙ c .if1 .taken))
 
 -- src/lib.rt:86:13
 sub-i : tie.Need-sub-i Inv-loop μ-loop
@@ -72,10 +72,10 @@ returns-2 c =
     let l = c .before in
     let s = l .before in
     let z : l .loop .i ≡ 0 = omega arith in
-    sym ((λ i. firstMid (s .args .list .now) (sym (toZ-ofZ (s .fits .t)) i) (sym (toZ-ofZ (s .fits .a)) i) (ofZ w16 (sym (toZ-ofZ (s .fits .s)) i)) (s .args .n)) ∙ l .loop .inv .1 ∙ ap (firstMid (s .args .list .now) (toZ w16 (ofZ w16 (s .args .t))) (toZ w16 (ofZ w16 (s .args .a))) (ofZ w16 (toZ w16 (ofZ w16 (s .args .s))))) z)
+    sym ((λ i. afterEarly (s .args .list .now) (sym (toZ-ofZ (s .fits .t)) i) (sym (toZ-ofZ (s .fits .a)) i) (ofZ w16 (sym (toZ-ofZ (s .fits .s)) i)) (s .args .n)) ∙ l .loop .inv .1 ∙ ap (afterEarly (s .args .list .now) (toZ w16 (ofZ w16 (s .args .t))) (toZ w16 (ofZ w16 (s .args .a))) (ofZ w16 (toZ w16 (ofZ w16 (s .args .s))))) z)
 
-pub first-mid-spec : {M : Type 1} → statement M
-first-mid-spec =
+pub after-early-spec : {M : Type 1} → statement M
+after-early-spec =
     tie.close
     (tie.spec
     Inv-loop

@@ -14,17 +14,17 @@ use Rattle.intervals.specs.Paint.{pt}
 use Rattle.intervals.specs.Cut.{gapb, lx}
 use Rattle.flat_records.proofs.Parts.{same16}
 use Rattle.flat_records.specs.Fours.{fourAt}
-use Rattle.cell_painting.specs.Reach.{lastMid, firstMid, lateR, earlyR}
+use Rattle.cell_painting.specs.Reach.{beforeLate, afterEarly, lateR, earlyR}
 use Rattle.cell_painting.proofs.Bits.{lt16, last-yes, last-no, first-yes, first-no}
 use borrow.Author.Needs.{needs}
-use Rattle.cell_painting.proofs.reach.last_mid.Statement.{statement}
-use Rattle.cell_painting.proofs.reach.last_mid.Tie as tie
-use Rattle.cell_painting.proofs.reach.last_mid.Reads as reads
-use Rattle.cell_painting.proofs.reach.last_mid.Lts as lts
+use Rattle.cell_painting.proofs.reach.before_late.Statement.{statement}
+use Rattle.cell_painting.proofs.reach.before_late.Tie as tie
+use Rattle.cell_painting.proofs.reach.before_late.Reads as reads
+use Rattle.cell_painting.proofs.reach.before_late.Lts as lts
 use Rattle.cell_painting.proofs.reach.late.Reads as late-reads
 
 abbrev Inv-loop : tie.InvT-loop
-Inv-loop list n t b s i₀ i = (i ≤ n) × (lastMid list (toZ w16 t) (toZ w16 b) (ofZ w16 (toZ w16 s)) n ≡ lastMid list (toZ w16 t) (toZ w16 b) (ofZ w16 (toZ w16 s)) i)
+Inv-loop list n t b s i₀ i = (i ≤ n) × (beforeLate list (toZ w16 t) (toZ w16 b) (ofZ w16 (toZ w16 s)) n ≡ beforeLate list (toZ w16 t) (toZ w16 b) (ofZ w16 (toZ w16 s)) i)
 
 abbrev μ-loop : tie.MeasureT-loop
 μ-loop list n t b s i₀ i = i
@@ -64,7 +64,7 @@ returns : tie.Need-returns Inv-loop μ-loop
 returns c =
     let l = c .before .before .before in
     let s = l .before in
-    sym ((λ i. lastMid (s .args .list .now) (sym (toZ-ofZ (s .fits .t)) i) (sym (toZ-ofZ (s .fits .b)) i) (ofZ w16 (sym (toZ-ofZ (s .fits .s)) i)) (s .args .n)) ∙ l .loop .inv .1 ∙ last-no _ _ _ _ (l .loop .i) (l .loop .i - 1) (omega arith) (sym (c .before .late .ensures) ∙ c .if1 .left))
+    sym ((λ i. beforeLate (s .args .list .now) (sym (toZ-ofZ (s .fits .t)) i) (sym (toZ-ofZ (s .fits .b)) i) (ofZ w16 (sym (toZ-ofZ (s .fits .s)) i)) (s .args .n)) ∙ l .loop .inv .1 ∙ last-no _ _ _ _ (l .loop .i) (l .loop .i - 1) (omega arith) (sym (c .before .late .ensures) ∙ c .if1 .left))
 
 -- src/lib.rt:62:1
 returns-2 : tie.Need-returns-2 Inv-loop μ-loop
@@ -72,10 +72,10 @@ returns-2 c =
     let l = c .before in
     let s = l .before in
     let z : l .loop .i ≡ 0 = omega arith in
-    sym ((λ i. lastMid (s .args .list .now) (sym (toZ-ofZ (s .fits .t)) i) (sym (toZ-ofZ (s .fits .b)) i) (ofZ w16 (sym (toZ-ofZ (s .fits .s)) i)) (s .args .n)) ∙ l .loop .inv .1 ∙ ap (lastMid (s .args .list .now) (toZ w16 (ofZ w16 (s .args .t))) (toZ w16 (ofZ w16 (s .args .b))) (ofZ w16 (toZ w16 (ofZ w16 (s .args .s))))) z)
+    sym ((λ i. beforeLate (s .args .list .now) (sym (toZ-ofZ (s .fits .t)) i) (sym (toZ-ofZ (s .fits .b)) i) (ofZ w16 (sym (toZ-ofZ (s .fits .s)) i)) (s .args .n)) ∙ l .loop .inv .1 ∙ ap (beforeLate (s .args .list .now) (toZ w16 (ofZ w16 (s .args .t))) (toZ w16 (ofZ w16 (s .args .b))) (ofZ w16 (toZ w16 (ofZ w16 (s .args .s))))) z)
 
-pub last-mid-spec : {M : Type 1} → statement M
-last-mid-spec =
+pub before-late-spec : {M : Type 1} → statement M
+before-late-spec =
     tie.close
     (tie.spec
     Inv-loop
