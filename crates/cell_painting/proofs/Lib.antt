@@ -5,3 +5,5 @@ pub mod Above
 pub mod Count
 pub mod Moves
 pub mod Sweep
+pub mod Whole
+pub mod Callers

@@ -1,6 +1,6 @@
 -- Laws of `take`, `drop`, `set` and `_++_` that editing a list in place asks for, beside `lib.ListN` and `lib.Seq`. Over any element type.
 use mathlib.Core.Path.{_≡_, refl, sym, ap, _∙_}
-use mathlib.Core.List.{List, _∷_, _++_, append-assoc}
+use mathlib.Core.List.{List, [], _∷_, _++_, append-assoc, append-nil}
 use Prim.Native.Nat.{ℕ, zero, suc, _+_, _-_, _^_, _≤_, _<_}
 use mathlib.Core.Logic.{_⊎_, inl, inr}
 use mathlib.Core.Bool.{Bool, true, false}
@@ -14,7 +14,7 @@ use lib.Signed.{mag}
 use mir.Syntax.{w16}
 use mir.Val.{toZ, ofZ}
 use mir.Facts.{toZ-ofZ}
-use lib.Seq.{drop-drop, drop-paste, take-suc, drop-cons, set-at, drop-at, getD-take, getD-drop, length-take-le, getD-append-add, paste, paste-suc, paste-zero, length-paste-head}
+use lib.Seq.{drop-length, drop-drop, drop-paste, take-suc, drop-cons, set-at, drop-at, getD-take, getD-drop, length-take-le, getD-append-add, paste, paste-suc, paste-zero, length-paste-head}
 
 -- two numbers, by cases
 pub lt-or-ge : (m n : ℕ) → (m < n) ⊎ (n ≤ m)
@@ -64,6 +64,14 @@ module _ {ℓ} {A : Type ℓ} where
 
   pub paste-none : (d : List A) (at : ℕ) (s : List A) (n : ℕ) → n ≡ 0 → d ≡ paste d at s n
   paste-none d at s n e = rw e (paste-zero d at s)
+
+  -- a paste over all of d
+  pub paste-whole : (d : List A) (m : ℕ) (v : A) (x : List A) → m ≡ length d → x ≡ paste d 0 (replicate m v) m → x ≡ replicate (length d) v
+  paste-whole d m v x h e =
+      let f : take m (replicate m v) ≡ replicate m v = take-replicate m m v (omega arith) in
+      let k : 0 + m ≡ length d = omega arith in
+      let g : drop (0 + m) d ≡ [] = ap (λ (j : ℕ). drop j d) k ∙ drop-length d in
+      e ∙ (λ i. f i ++ g i) ∙ append-nil (replicate m v) ∙ ap (λ (k : ℕ). replicate k v) h
 
   pub drop-paste-at : (d : List A) (at : ℕ) (s : List A) (n : ℕ) → at ≤ length d → drop at (paste d at s n) ≡ take n s ++ drop (at + n) d
   drop-paste-at d at s n h = rw append-assoc (drop-at (take at d) (take n s ++ drop (at + n) d) at (length-take-le at d h))
