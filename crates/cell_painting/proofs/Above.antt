@@ -5,7 +5,8 @@ use mathlib.Core.List.{List, [], _∷_, _++_}
 use Prim.Native.Nat.{ℕ, zero, suc, _+_, _-_, _*_, _≤_, _<_}
 use native.Mathlib.Omega.{arith}
 use lib.IntN.{ℤ, pos, sucℤ, _-ℤ_}
-use lib.Signed.{ltZ}
+use lib.Signed.{ltZ, _≤ℤ_}
+use lib.ListN.{length, drop, getD}
 use mir.Syntax.{w16}
 use mir.Val.{ofZ}
 use Rattle.signed.proofs.Laws.{signed, dif}
@@ -23,7 +24,8 @@ use Rattle.intervals.proofs.Split.{Late}
 use Rattle.intervals.proofs.Tracks.{In, same-self}
 use Rattle.intervals.proofs.OnTrack as Ot
 use Rattle.intervals.proofs.OnTrack.{On}
-use Rattle.flat_records.specs.Fours.{Four}
+use Rattle.flat_records.specs.Fours.{Four, fours, fourAt}
+use Rattle.flat_records.proofs.Fours.{fours-more}
 use Rattle.cell_painting.specs.Reach as Se
 use Rattle.cell_painting.specs.Reach.{runs, runOf, Lo, Tags}
 use Rattle.cell_painting.specs.Passes.{Above, nil, cons}
@@ -83,3 +85,13 @@ in-span t₁ t₂ t h = in-of (span t₁ t₂) (span t t₂) (λ u k. span-is t�
     go u e (yea i) j = no-both e (rw i)
     go u e (nay i) (nay j) = no-both e (rw (i, j))
     go u e (nay i) (yea j) = let z : ltZ u t₁ ≡ false = omega signed in rw (z, j)
+
+-- records from k on, by their places
+pub above-at : (l : List ℤ) (t : ℤ) (m k : ℕ) → 4 * (k + m) ≤ length l → ((i : ℕ) → k ≤ i → i < k + m → t ≤ℤ getD l (4 * i) (pos 0)) → Above t (fours m (drop (4 * k) l))
+above-at l t zero k h f = nil
+above-at l t (suc m) k h f =
+    let e : 4 * k + 4 ≡ 4 * suc k = omega arith in
+    let b = f k (omega arith) (omega arith) in
+    let z : ltZ (getD l (4 * k) (pos 0)) t ≡ false = omega signed in
+    subst (Above t) (sym (fours-more m l (4 * k) (omega arith) ∙ ap (λ (j : ℕ). fourAt l (4 * k) ∷ fours m (drop j l)) e))
+    (cons z (above-at l t m (suc k) (omega arith) (λ i a b. f i (omega arith) (omega arith))))

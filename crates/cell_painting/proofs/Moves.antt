@@ -159,6 +159,7 @@ module _ (all : Bool) {a b s t : ℤ} {l : List ℤ} {r w top : ℕ} (g : Gapped
       tail = up-tail;
       is = ap runs up-all ∙ sym (chosen f ef ∙ ap (λ (z : Bool). cond z (P a b σ t rs) rs) left);
       above = subst (Above t) (sym up-post) (late-above t b σ (post ++ W) (s-found .behind));
+      down = omega arith;
     }
 
     -- the track is painted
@@ -209,6 +210,7 @@ module _ (all : Bool) {a b s t : ℤ} {l : List ℤ} {r w top : ℕ} (g : Gapped
           tail = m-past x put y (v - n) n (4 * (v - n)) (4 * n) refl refl hx hp e′ w (omega (arith, fits)) ∙ up-tail;
           is = y-is ∙ sym is-P;
           above = subst (Above t) (sym y-post) (above-append (post ++ W) (lo-above (q .become .los)) (late-above t b σ (post ++ W) (s-found .behind)));
+          down = omega arith;
         }
           where
             y-long : length y ≡ length x

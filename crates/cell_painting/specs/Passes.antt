@@ -49,6 +49,7 @@ pub record Stepped (all : Bool) (a b s t : ℤ) (l : List ℤ) (r w top : ℕ) (
   pub tail : drop (4 * w) x ≡ drop (4 * w) l
   pub is : held x r′ w′ top ≡ stepped all a b (ofZ w16 s) t (held l r w top)
   pub above : Above t (fours (top - w′) (drop (4 * w′) x))
+  pub down : w′ ≤ w
 
 -- what a sweep requires: the records, and room up to `top`
 pub record Ready (l : List ℤ) (used top : ℕ) : Type 0 where
@@ -67,3 +68,8 @@ pub record Swept (all : Bool) (a b s t₁ t₂ : ℤ) (l : List ℤ) (used : ℕ
   pub long : length x ≡ length l
   pub is : runs (fours n x) ≡ sw all a b (ofZ w16 s) (span t₁ t₂) (runs (fours used l))
   pub tags : Tags (fours n x)
+
+-- of the first n records the last k are on tracks from t on
+pub record Tail (l : List ℤ) (n k : ℕ) (t : ℤ) : Type 0 where
+  pub few : k ≤ n
+  pub above : Above t (fours k (drop (4 * (n - k)) l))

@@ -9,6 +9,9 @@ ghost use Rattle.flat_records.specs.Fours.{fourAt};
 ghost use Rattle.intervals.specs.Cut.{gapb, lx};
 ghost use Rattle.cell_painting.specs.Reach.{earlyR, lateR, beforeLate, afterEarly};
 ghost use mathlib.Core.Bool.{true, false};
+ghost use Rattle.intervals.specs.Lists.{Holds};
+ghost use Rattle.cell_painting.specs.Passes.{Tail};
+use cell_occupancy::tracks::lower;
 
 // Reading order: by track, then position.
 pub fn before(t: i16, p: i16, u: i16, q: i16) -> bool
@@ -84,4 +87,14 @@ pub fn after_early(list: &[i16], n: usize, t: i16, a: i16, s: i16) -> usize
         }
     }
     0
+}
+
+// How many records lie on tracks from `track` on: they are the last ones, and found by halving.
+pub fn records_behind(list: &[i16], used: usize, track: i16) -> usize
+    requires { ⌜ Holds (now list) used ⌝ }
+    ensures { λ r. ⌜ Tail (now (list .entry)) used r track ⌝ }
+{
+    let x = track as i32;
+    let k = lower(list, 0, used, x);
+    used - k
 }

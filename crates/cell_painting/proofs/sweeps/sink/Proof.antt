@@ -2,10 +2,10 @@ use Prim.Native.Nat.{ℕ, _+_, _-_, _*_, _≤_}
 use native.Mathlib.Omega.{arith}
 use Rattle.cell_painting.proofs.Moves.{paste-self}
 use borrow.Author.Needs.{needs}
-use Rattle.cell_painting.proofs.sweeps.lower.Statement.{statement}
-use Rattle.cell_painting.proofs.sweeps.lower.Tie as tie
-use Rattle.cell_painting.proofs.sweeps.lower.Reads as reads
-use Rattle.cell_painting.proofs.sweeps.lower.Lts as lts
+use Rattle.cell_painting.proofs.sweeps.sink.Statement.{statement}
+use Rattle.cell_painting.proofs.sweeps.sink.Tie as tie
+use Rattle.cell_painting.proofs.sweeps.sink.Reads as reads
+use Rattle.cell_painting.proofs.sweeps.sink.Lts as lts
 use Rattle.flat_records.proofs.move_down.Reads as move-down-reads
 
 -- src/lib.rt:85:9
@@ -26,5 +26,5 @@ same-length c = search needs
 returns-2 : tie.Need-returns-2
 returns-2 c = search needs
 
-pub lower-spec : {M : Type 1} → statement M
-lower-spec = tie.close (tie.spec returns move-down-requires same-length returns-2)
+pub sink-spec : {M : Type 1} → statement M
+sink-spec = tie.close (tie.spec returns move-down-requires same-length returns-2)
