@@ -1,24 +1,23 @@
 -- Laws of `Above`, and of the span of tracks.
 use mathlib.Core.Path.{_≡_, refl, sym, ap, _∙_, subst}
-use mathlib.Core.Bool.{Bool, true, false, not, cond, _&&_, _||_}
+use mathlib.Core.Bool.{Bool, true, false, _||_}
 use mathlib.Core.List.{List, [], _∷_, _++_}
-use Prim.Native.Nat.{ℕ, zero, suc, _+_, _-_, _*_, _≤_, _<_}
+use Prim.Native.Nat.{ℕ, zero, suc, _+_, _*_, _≤_, _<_}
 use native.Mathlib.Omega.{arith}
-use lib.IntN.{ℤ, pos, sucℤ, _-ℤ_}
+use lib.IntN.{ℤ, pos}
 use lib.Signed.{ltZ, _≤ℤ_}
 use lib.ListN.{length, drop, getD}
 use mir.Syntax.{w16}
 use mir.Val.{ofZ}
-use Rattle.signed.proofs.Laws.{signed, dif}
-use Rattle.signed.specs.Parts.{up, dn}
-use Rattle.intervals.specs.Paint.{Run, run, Point, pt}
+use Rattle.signed.proofs.Laws.{signed}
+use Rattle.intervals.specs.Paint.{pt}
 use Rattle.intervals.proofs.Line.{Test, yea, nay, test, no-both}
 use Rattle.intervals.specs.Records.{same, between}
 use Rattle.intervals.proofs.Paint.{mem}
 use Rattle.intervals.proofs.IntOrder.{int-linear}
 use Rattle.intervals.specs.OverInt.{span}
 use Rattle.intervals.proofs.OverInt.{span-is}
-use Rattle.intervals.specs.Cut.{gapb, lx, Rn}
+use Rattle.intervals.specs.Cut.{gapb, lx}
 use Rattle.intervals.proofs.Split as Sp
 use Rattle.intervals.proofs.Split.{Late}
 use Rattle.intervals.proofs.Tracks.{In, same-self}
@@ -27,7 +26,7 @@ use Rattle.intervals.proofs.OnTrack.{On}
 use Rattle.flat_records.specs.Fours.{Four, fours, fourAt}
 use Rattle.flat_records.proofs.Fours.{fours-more}
 use Rattle.cell_painting.specs.Reach as Se
-use Rattle.cell_painting.specs.Reach.{runs, runOf, Lo, Tags}
+use Rattle.cell_painting.specs.Reach.{runs, Lo, Tags}
 use Rattle.cell_painting.specs.Passes.{Above, nil, cons}
 
 pub above-append : {t : ℤ} {xs : List Four} (ys : List Four) → Above t xs → Above t ys → Above t (xs ++ ys)

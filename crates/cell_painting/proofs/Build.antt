@@ -1,17 +1,17 @@
 -- Laws for `build` and `cut_out`.
 use mathlib.Core.Path.{_≡_, refl, sym, ap, _∙_}
-use mathlib.Core.Bool.{Bool, true, false, not, cond}
+use mathlib.Core.Bool.{Bool, true, false, cond}
 use mathlib.Core.List.{List, [], _∷_, _++_, map}
-use Prim.Native.Nat.{ℕ, zero, suc, _+_, _-_, _*_, _^_, _<_, _≤_}
+use Prim.Native.Nat.{ℕ, suc, _+_, _-_, _*_, _^_, _<_, _≤_}
 use native.Mathlib.Omega.{arith}
 use lib.IntN.{ℤ, pos}
 use lib.Dec.{eqb}
 use lib.Signed.{ltZ, mag}
-use lib.ListN.{drop, getD, length}
+use lib.ListN.{drop, length}
 use mir.Syntax.{w16}
-use mir.Val.{toZ, ofZ, SFits}
+use mir.Val.{ofZ, SFits}
 use mir.Facts.{toZ-ofZ}
-use Rattle.intervals.specs.Paint.{Run, run, Point, pt}
+use Rattle.intervals.specs.Paint.{run, Point, pt}
 use Rattle.intervals.proofs.Line.{Test, yea, nay, test}
 use Rattle.intervals.proofs.IntOrder.{int-linear}
 use Rattle.intervals.specs.Cut.{new, lrem, lstart, rtail, rend, lx, Rn}
@@ -19,7 +19,7 @@ use Rattle.flat_records.specs.Fours.{Four, fourAt, fours}
 use Rattle.flat_records.proofs.Parts.{same16}
 use Rattle.flat_records.proofs.Fours.{fours-more, fours-snoc, fourAt-drop-add}
 use Rattle.cell_painting.proofs.Bits.{ζ}
-use Rattle.cell_painting.specs.Reach.{runOf, runs, startOf, leftOf, endOf, rightOf, Tags, nil, cons, Built, Pieced, OnTrack}
+use Rattle.cell_painting.specs.Reach.{runOf, runs, startOf, leftOf, endOf, rightOf, nil, cons, Built, Pieced, OnTrack}
 
 module _ (t c v d z a b s : ℤ) (T : SFits w16 t) (C : SFits w16 c) (Vv : SFits w16 v) (D : SFits w16 d) (Z : SFits w16 z) (A : SFits w16 a) (B : SFits w16 b) (S : SFits w16 s)
     (st en : ℤ) (o : mag st < 2 ^ 15) (o′ : mag en < 2 ^ 15)

@@ -1,18 +1,17 @@
 -- The invariant of `count`.
 use mathlib.Core.Path.{_≡_, refl, sym, ap, _∙_, subst}
-use mathlib.Core.Bool.{Bool, true, false, not, cond}
-use mathlib.Core.List.{List, [], _∷_, _++_, append-assoc}
-use Prim.Native.Nat.{ℕ, zero, suc, _+_, _-_, _*_, _≤_, _<_}
+use mathlib.Core.Bool.{true, false}
+use mathlib.Core.List.{List, [], _∷_, _++_}
+use Prim.Native.Nat.{ℕ, _+_, _-_, _*_, _≤_}
 use native.Mathlib.Omega.{arith}
-use lib.IntN.{ℤ, pos, negsuc, sucℤ, _-ℤ_, _+ℤ_}
+use lib.IntN.{ℤ, pos, _-ℤ_, _+ℤ_}
 use lib.Signed.{ltZ}
 use lib.ListN.{length, drop, length-map}
 use lib.Seq.{drop-drop}
 use mir.Syntax.{w16}
-use mir.Val.{toZ, ofZ, SFits}
-use mir.Facts.{toZ-ofZ}
-use Rattle.signed.proofs.Laws.{signed, dif, rng}
-use Rattle.signed.specs.Parts.{up, dn, gap}
+use mir.Val.{ofZ, SFits}
+use Rattle.signed.proofs.Laws.{signed, rng}
+use Rattle.signed.specs.Parts.{gap}
 use Rattle.intervals.specs.Paint.{pt}
 use Rattle.intervals.specs.OverInt.{span}
 use Rattle.intervals.specs.Cut.{new, lx, Rn, H, N, PT}

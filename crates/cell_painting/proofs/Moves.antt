@@ -1,18 +1,16 @@
 -- What moving records does to a list with a gap, and the two ends of a step.
 use mathlib.Core.Path.{_≡_, refl, sym, ap, _∙_, subst}
-use mathlib.Core.Bool.{Bool, true, false, not, cond, _||_}
+use mathlib.Core.Bool.{Bool, true, false, cond, _||_}
 use mathlib.Core.List.{List, [], _∷_, _++_, append-assoc}
-use Prim.Native.Nat.{ℕ, zero, suc, _+_, _-_, _*_, _≤_, _<_}
+use Prim.Native.Nat.{ℕ, _+_, _-_, _*_, _≤_}
 use native.Mathlib.Omega.{arith}
 use native.Mathlib.Nat.{zero-add, suc-add}
 use lib.Dec.{leb}
-use lib.IntN.{ℤ, pos}
-use lib.Signed.{ltZ}
+use lib.IntN.{ℤ}
 use lib.ListN.{length, take, drop, length-drop, length-append, take-append-drop}
-use lib.Seq.{paste, length-paste, drop-drop, take-add}
+use lib.Seq.{paste, length-paste, take-add}
 use mir.Syntax.{w16}
-use mir.Val.{toZ, ofZ, SFits}
-use mir.Facts.{toZ-ofZ}
+use mir.Val.{ofZ}
 use Rattle.intervals.specs.Paint.{pt}
 use Rattle.intervals.specs.Cut.{new, lx, Rn, P, H, N}
 use Rattle.intervals.proofs.Split.{Late}
@@ -23,7 +21,7 @@ use Rattle.flat_records.proofs.Parts.{drop-paste-at, drop-paste-past}
 use Rattle.flat_records.proofs.Fours.{fours-paste, enc-fours, length-fours}
 use Rattle.cell_painting.specs.Reach.{runs, runOf, Tags, Apart, Reaches}
 use Rattle.cell_painting.proofs.Build.{map-append}
-use Rattle.cell_painting.proofs.Found.{Found, found, fours-add}
+use Rattle.cell_painting.proofs.Found.{Found, found}
 use Rattle.cell_painting.specs.Passes.{Good, Above, Gapped, Stepped, stepped, held}
 use Rattle.cell_painting.proofs.Above.{above-append, late-above, lo-above, tags-append, tags-l, tags-r}
 use Rattle.cell_painting.proofs.Count.{halves, length-runs}

@@ -14,10 +14,10 @@ use mir.Val.{toZ, ofZ}
 use borrow.Author.Tests.{eqb-true}
 use Rattle.intervals.specs.Records.{Rec, rec, behind, follows}
 use Rattle.intervals.specs.Paint.{run, Point, pt, toRun, toRec}
-use Rattle.intervals.specs.OverInt.{ok, keeps, fit, paintList, span, digits, encode, flat}
+use Rattle.intervals.specs.OverInt.{ok, keeps, fit, paintList, span, encode, flat}
 use Rattle.intervals.specs.Lists.{allIn, recs, Holds}
 use Rattle.intervals.specs.Cut.{lx, Rn, PT, sw}
-use Rattle.intervals.proofs.Line.{From, none, next, Keeps, empty, first, Test, yea, nay, test, no-both}
+use Rattle.intervals.proofs.Line.{From, next, first, Test, yea, nay, test, no-both}
 use Rattle.intervals.proofs.Grid as Gr
 use Rattle.intervals.proofs.Grid.{Span, and-l, and-r, and₃}
 use Rattle.intervals.proofs.IntOrder.{int-linear}
@@ -25,11 +25,11 @@ use Rattle.intervals.proofs.Index.{rows-snoc}
 use Rattle.intervals.proofs.Lists.{holds-room, holds-used, holds-zeros}
 use Rattle.intervals.proofs.Tracks.{OK, K, Grow, Fits, Shrunk, shrunk, more, sw-all, room-more, PT-keep}
 use Rattle.intervals.proofs.Spans.{dis-span, in-self}
-use Rattle.flat_records.specs.Fours.{Four, enc, fours, fourAt, Laid}
+use Rattle.flat_records.specs.Fours.{Four, enc, fours, fourAt}
 use Rattle.flat_records.proofs.Fours.{laid-is, length-enc, length-fours, fours-snoc, enc-fours}
 use Rattle.cell_painting.specs.Painting.{stateOf, areaOf}
 use Rattle.cell_painting.specs.Reach as Re
-use Rattle.cell_painting.specs.Reach.{runs, runOf, Tags}
+use Rattle.cell_painting.specs.Reach.{runs, Tags}
 use Rattle.cell_painting.specs.Passes.{Good, Ready, Roomy, Swept}
 use Rattle.cell_painting.proofs.Build.{map-append}
 use Rattle.cell_painting.proofs.Above.{in-span}

@@ -1,6 +1,6 @@
 -- What the passes of painting an area require and leave.
 use mathlib.Core.Path.{_≡_}
-use mathlib.Core.Bool.{Bool, true, false, cond, _||_}
+use mathlib.Core.Bool.{Bool, false, cond, _||_}
 use mathlib.Core.List.{List, [], _∷_, _++_}
 use Prim.Native.Nat.{ℕ, _+_, _-_, _*_, _≤_}
 use lib.Dec.{leb}
@@ -10,10 +10,8 @@ use lib.ListN.{length, drop}
 use mir.Syntax.{w16}
 use mir.Val.{ofZ}
 use Rattle.intervals.proofs.Line.{_≺_}
-use Rattle.intervals.specs.Paint.{pt}
 use Rattle.intervals.specs.OverInt.{span}
-use Rattle.intervals.proofs.Split.{Late}
-use Rattle.intervals.specs.Cut.{lx, Rn, P, H, N, sw}
+use Rattle.intervals.specs.Cut.{Rn, P, H, N, sw}
 use Rattle.intervals.proofs.Tracks.{OK, K}
 use Rattle.flat_records.specs.Fours.{Four, fours, Laid}
 use Rattle.cell_painting.specs.Reach.{runs, Tags}

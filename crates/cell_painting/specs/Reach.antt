@@ -1,6 +1,6 @@
 -- A record of the flat list (track, start, end, state) as a run of the reading order, and the places where a track's paint cuts a list.
 use mathlib.Core.Path.{_≡_}
-use mathlib.Core.Bool.{Bool, true, false, not, cond}
+use mathlib.Core.Bool.{Bool, false, not, cond}
 use mathlib.Core.List.{List, [], _∷_, _++_, map}
 use Prim.Native.Nat.{ℕ, zero, suc, _+_, _-_, _*_, _<_, _≤_}
 use lib.IntN.{ℤ, pos}
@@ -9,7 +9,7 @@ use lib.Dec.{eqb}
 use lib.Signed.{ltZ}
 use mir.Syntax.{w16}
 use mir.Val.{toZ, ofZ}
-use Rattle.intervals.specs.Paint.{Run, run, Point, pt}
+use Rattle.intervals.specs.Paint.{run, pt}
 use Rattle.flat_records.specs.Fours.{Four, fourAt, fours}
 use Rattle.intervals.specs.Cut.{gapb, new, lx, Rn}
 

@@ -1,14 +1,12 @@
 -- `count_painted` meets its contract. What the tracks from `track` on replace, and by what, is counted already (`CInv`).
-use mathlib.Core.Path.{_≡_}
-use Prim.Native.Nat.{ℕ, _+_, _-_, _*_, _≤_}
 use native.Mathlib.Omega.{arith}
 use mir.Syntax.{w16}
-use mir.Val.{toZ, ofZ, SFits}
+use mir.Val.{toZ}
 use mir.Facts.{toZ-ofZ}
 use Rattle.signed.specs.Parts.{gap}
 use Rattle.signed.proofs.Laws.{signed, rng}
 use Rattle.intervals.proofs.Lists.{holds-room}
-use Rattle.cell_painting.proofs.Bits.{ζ, back16, lt16-back, good-back}
+use Rattle.cell_painting.proofs.Bits.{back16, lt16-back, good-back}
 use Rattle.cell_painting.proofs.Count.{CInv, c-start, c-room, c-apart, c-low, c-high, c-next, c-done}
 use Rattle.cell_painting.proofs.Whole.{Asked, tracks, good, keep, total-is}
 use borrow.Author.Needs.{needs}

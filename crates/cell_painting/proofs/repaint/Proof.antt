@@ -1,5 +1,4 @@
 -- `repaint` meets its contract: the tracks on which the records get no more, then all.
-use mathlib.Core.Path.{_≡_}
 use mathlib.Core.Bool.{false}
 use Rattle.cell_painting.specs.Passes.{Swept}
 use Rattle.cell_painting.proofs.Bits.{lt16-back, good-back}

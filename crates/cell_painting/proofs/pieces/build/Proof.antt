@@ -1,16 +1,9 @@
-use mathlib.Core.Path.{_≡_, refl, sym, ap, _∙_}
-use Prim.Native.Nat.{ℕ, suc, _+_, _-_, _*_, _≤_}
+use mathlib.Core.Path.{refl, sym, _∙_}
 use native.Mathlib.Omega.{arith}
 use Rattle.cell_painting.proofs.Build.{b3, b2l, b2r, b1}
 use borrow.Author.Needs.{needs}
 use Rattle.cell_painting.proofs.pieces.build.Statement.{statement}
 use Rattle.cell_painting.proofs.pieces.build.Tie as tie
-use Rattle.cell_painting.proofs.pieces.build.Reads as reads
-use Rattle.cell_painting.proofs.pieces.build.Lts as lts
-use Rattle.cell_painting.proofs.pieces.end_of.Reads as end-of-reads
-use Rattle.cell_painting.proofs.pieces.left_of.Reads as left-of-reads
-use Rattle.cell_painting.proofs.pieces.right_of.Reads as right-of-reads
-use Rattle.cell_painting.proofs.pieces.start_of.Reads as start-of-reads
 
 -- src/lib.rt:145:9
 start-of-requires : tie.Need-start-of-requires

@@ -1,20 +1,15 @@
-use mathlib.Core.Path.{_≡_, refl, sym, ap, _∙_, subst}
+use mathlib.Core.Path.{refl}
 use mathlib.Core.List.{List}
-use Prim.Native.Nat.{ℕ, suc, _+_, _-_, _*_, _≤_, _<_}
+use Prim.Native.Nat.{_+_, _-_, _*_}
 use native.Mathlib.Omega.{arith}
-use lib.IntN.{ℤ, pos}
+use lib.IntN.{pos}
 use lib.ListN.{getD}
-use mir.Facts.{toZ-ofZ}
-use Rattle.flat_records.proofs.Parts.{same16}
-use Rattle.flat_records.specs.Fours.{fourAt, fours, Four}
+use Rattle.flat_records.specs.Fours.{fours, Four}
 use Rattle.cell_painting.specs.Reach.{Built}
 use Rattle.cell_painting.proofs.Build.{pieced, alone, plain}
 use borrow.Author.Needs.{needs}
 use Rattle.cell_painting.proofs.pieces.cut_out.Statement.{statement}
 use Rattle.cell_painting.proofs.pieces.cut_out.Tie as tie
-use Rattle.cell_painting.proofs.pieces.cut_out.Reads as reads
-use Rattle.cell_painting.proofs.pieces.cut_out.Lts as lts
-use Rattle.cell_painting.proofs.pieces.build.Reads as build-reads
 
 -- src/lib.rt:178:9
 returns : tie.Need-returns

@@ -1,6 +1,6 @@
 -- `records_behind` meets its contract: a halving search for the first record of those tracks.
-use mathlib.Core.Path.{_≡_, sym, ap, subst}
-use Prim.Native.Nat.{ℕ, _+_, _-_, _*_, _≤_, _<_}
+use mathlib.Core.Path.{_≡_, sym, subst}
+use Prim.Native.Nat.{ℕ, _-_, _*_, _≤_}
 use native.Mathlib.Omega.{arith}
 use lib.IntN.{ℤ}
 use lib.ListN.{drop}
@@ -13,7 +13,6 @@ use Rattle.cell_occupancy.proofs.ByIndex.{holds-front}
 use Rattle.flat_records.specs.Fours.{fours}
 use Rattle.cell_painting.specs.Passes.{Above}
 use Rattle.cell_painting.proofs.Above.{above-at}
-use borrow.Author.Needs.{needs}
 use Rattle.cell_painting.proofs.reach.records_behind.Statement.{statement}
 use Rattle.cell_painting.proofs.reach.records_behind.Tie as tie
 

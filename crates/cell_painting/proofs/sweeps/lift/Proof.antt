@@ -1,12 +1,9 @@
-use Prim.Native.Nat.{ℕ, _+_, _-_, _*_, _≤_}
+use Prim.Native.Nat.{_+_, _-_}
 use native.Mathlib.Omega.{arith}
 use Rattle.cell_painting.proofs.Moves.{paste-self}
 use borrow.Author.Needs.{needs}
 use Rattle.cell_painting.proofs.sweeps.lift.Statement.{statement}
 use Rattle.cell_painting.proofs.sweeps.lift.Tie as tie
-use Rattle.cell_painting.proofs.sweeps.lift.Reads as reads
-use Rattle.cell_painting.proofs.sweeps.lift.Lts as lts
-use Rattle.flat_records.proofs.move_up.Reads as move-up-reads
 
 -- src/lib.rt:72:9
 returns : tie.Need-returns

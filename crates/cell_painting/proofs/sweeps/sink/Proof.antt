@@ -1,12 +1,9 @@
-use Prim.Native.Nat.{ℕ, _+_, _-_, _*_, _≤_}
+use Prim.Native.Nat.{_-_}
 use native.Mathlib.Omega.{arith}
 use Rattle.cell_painting.proofs.Moves.{paste-self}
 use borrow.Author.Needs.{needs}
 use Rattle.cell_painting.proofs.sweeps.sink.Statement.{statement}
 use Rattle.cell_painting.proofs.sweeps.sink.Tie as tie
-use Rattle.cell_painting.proofs.sweeps.sink.Reads as reads
-use Rattle.cell_painting.proofs.sweeps.sink.Lts as lts
-use Rattle.flat_records.proofs.move_down.Reads as move-down-reads
 
 -- src/lib.rt:85:9
 returns : tie.Need-returns

@@ -1,13 +1,10 @@
 -- `sweep` meets its contract. The tracks from `t` on are swept already (`SInv`).
-use mathlib.Core.Path.{_≡_}
-use Prim.Native.Nat.{ℕ, _+_, _-_, _*_, _≤_}
 use native.Mathlib.Omega.{arith}
 use mir.Syntax.{w16}
-use mir.Val.{toZ, ofZ}
+use mir.Val.{toZ}
 use mir.Facts.{toZ-ofZ}
 use Rattle.signed.specs.Parts.{gap}
 use Rattle.signed.proofs.Laws.{signed, rng}
-use Rattle.cell_painting.specs.Passes.{Ready}
 use Rattle.cell_painting.proofs.Bits.{ζ, good-back, lt16-back}
 use Rattle.cell_painting.proofs.Sweep.{Lifted, lifted, SInv, s-start, s-late, s-room, s-next, down-long}
 use Rattle.cell_painting.proofs.Swept.{s-done, s-tail, roomy-back, swept-plain, tail-back, tail-plain}

@@ -1,8 +1,6 @@
 use borrow.Author.Needs.{needs}
 use Rattle.cell_painting.proofs.sweeps.wanted.Statement.{statement}
 use Rattle.cell_painting.proofs.sweeps.wanted.Tie as tie
-use Rattle.cell_painting.proofs.sweeps.wanted.Reads as reads
-use Rattle.cell_painting.proofs.sweeps.wanted.Lts as lts
 
 -- src/lib.rt:52:9
 returns : tie.Need-returns
