@@ -26,7 +26,7 @@ use Rattle.intervals.proofs.OnTrack.{On}
 use Rattle.flat_records.specs.Fours.{Four, fours, fourAt}
 use Rattle.flat_records.proofs.Fours.{fours-more}
 use Rattle.cell_painting.specs.Reach as Se
-use Rattle.cell_painting.specs.Reach.{runs, Lo, Tags}
+use Rattle.cell_painting.specs.Reach.{runs, AllOn, Stored}
 use Rattle.cell_painting.specs.Passes.{Above, nil, cons}
 
 pub above-append : {t : ℤ} {xs : List Four} (ys : List Four) → Above t xs → Above t ys → Above t (xs ++ ys)
@@ -48,25 +48,25 @@ late-above u b s (r ∷ rs) (Sp.cons e h) = go (test (ltZ (r .track) u)) (late-a
     go (nay i) k = cons i k
     go (yea i) k = let z : ltZ u (r .track) ≡ false = omega signed in no-both e (rw (z, i))
 
-pub lo-above : {t : ℤ} {rs : List Four} → Lo t rs → Above t rs
-lo-above Se.nil = nil
-lo-above {t} (Se.cons {r = r} e h) = cons (ap (λ (z : ℤ). ltZ z t) e ∙ int-linear .irr t) (lo-above h)
+pub all-on-above : {t : ℤ} {rs : List Four} → AllOn t rs → Above t rs
+all-on-above Se.nil = nil
+all-on-above {t} (Se.cons {r = r} e h) = cons (ap (λ (z : ℤ). ltZ z t) e ∙ int-linear .irr t) (all-on-above h)
 
 pub on-above : (t : ℤ) (rs : List Four) → On t (runs rs) → Above t rs
 on-above t [] h = nil
 on-above t (r ∷ rs) (Ot.cons e i h) = cons (ap (λ (z : ℤ). ltZ z t) e ∙ int-linear .irr t) (on-above t rs h)
 
-pub tags-append : {xs : List Four} (ys : List Four) → Tags xs → Tags ys → Tags (xs ++ ys)
-tags-append ys Se.nil k = k
-tags-append ys (Se.cons e h) k = Se.cons e (tags-append ys h k)
+pub stored-append : {xs : List Four} (ys : List Four) → Stored xs → Stored ys → Stored (xs ++ ys)
+stored-append ys Se.nil k = k
+stored-append ys (Se.cons e h) k = Se.cons e (stored-append ys h k)
 
-pub tags-l : (xs ys : List Four) → Tags (xs ++ ys) → Tags xs
-tags-l [] ys h = Se.nil
-tags-l (x ∷ xs) ys (Se.cons e h) = Se.cons e (tags-l xs ys h)
+pub stored-l : (xs ys : List Four) → Stored (xs ++ ys) → Stored xs
+stored-l [] ys h = Se.nil
+stored-l (x ∷ xs) ys (Se.cons e h) = Se.cons e (stored-l xs ys h)
 
-pub tags-r : (xs ys : List Four) → Tags (xs ++ ys) → Tags ys
-tags-r [] ys h = h
-tags-r (x ∷ xs) ys (Se.cons e h) = tags-r xs ys h
+pub stored-r : (xs ys : List Four) → Stored (xs ++ ys) → Stored ys
+stored-r [] ys h = h
+stored-r (x ∷ xs) ys (Se.cons e h) = stored-r xs ys h
 
 -- ---- the tracks from T on are of those from t₁ on
 in-of : (us ts : List ℤ) → ((u : ℤ) → mem ltZ u ts ≡ true → mem ltZ u us ≡ true) → In us ts

@@ -1,4 +1,4 @@
--- What the two searches find: a list taken apart for `split`.
+-- What the two searches find: the records before what is reached, those that are, and those behind.
 use mathlib.Core.Path.{_≡_, refl, sym, ap, _∙_, subst}
 use mathlib.Core.Bool.{true, false}
 use mathlib.Core.List.{List, [], _∷_, _++_, append-assoc}

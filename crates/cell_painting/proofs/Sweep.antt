@@ -18,7 +18,7 @@ use Rattle.intervals.specs.Cut.{lx, sw}
 use Rattle.intervals.proofs.Tracks.{K}
 use Rattle.intervals.proofs.Spans.{span-none, span-cons}
 use Rattle.flat_records.specs.Fours.{Four, fours}
-use Rattle.cell_painting.specs.Reach.{runs, Tags}
+use Rattle.cell_painting.specs.Reach.{runs, Stored}
 use Rattle.cell_painting.specs.Passes.{Good, Above, Gapped, Stepped, stepped, held, Ready, Roomy, Tail}
 use Rattle.cell_painting.proofs.Above.{above-late}
 use Rattle.cell_painting.proofs.Count.{halves, suc-of}
@@ -112,7 +112,7 @@ s-start all {l} {used} {behind} {top} t₁ {t₂} a b s {x} L g o z =
         high = omega arith;
         room = omega (arith, L .long, L .ready .room);
         keep = subst (λ (y : List Four). K (runs y)) (sym (L .all)) (L .ready .keep);
-        tags = subst Tags (sym (L .all)) (L .ready .tags);
+        stored = subst Stored (sym (L .all)) (L .ready .stored);
       };
       long = refl;
       tail = refl;

@@ -17,7 +17,7 @@ use Rattle.intervals.specs.Cut.{Rn, PT, sw}
 use Rattle.flat_records.specs.Fours.{Four, padded, fours, Laid}
 use Rattle.flat_records.proofs.Parts.{drop-replicate}
 use Rattle.flat_records.proofs.Fours.{enc-fours, length-fours, wiped, fours-enc, laid-padded, length-padded}
-use Rattle.cell_painting.specs.Reach.{runs, Tags}
+use Rattle.cell_painting.specs.Reach.{runs, Stored}
 use Rattle.cell_painting.specs.Passes.{Above, Gapped, Roomy, Swept, Tail}
 use Rattle.cell_painting.proofs.Bits.{ζ}
 use Rattle.cell_painting.proofs.Count.{halves}
@@ -72,7 +72,7 @@ module _ {all : Bool} {l : List ℤ} {used behind top : ℕ} {t₁ t₂ a b s : 
         laid = subst (λ (m : ℕ). Laid y m) ln (subst (λ (m : List ℤ). Laid m (length (fours n x))) (sym y-is) (laid-padded (fours n x) (length x) b4));
         long = ap length y-is ∙ length-padded (fours n x) (length x) b4 ∙ down-long v x e ∙ v .long ∙ L .long;
         is = ap runs y-all ∙ v .is ∙ (λ i. sw all a b (ofZ w16 s) (span (et i) t₂) (runs (L .all i)));
-        tags = subst Tags (sym y-all) (g .tags);
+        stored = subst Stored (sym y-all) (g .stored);
       }
 
   -- the records behind the area are still the last ones

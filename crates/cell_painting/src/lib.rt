@@ -1,8 +1,8 @@
 // Changing a row list or a column list: counting the records that a paint leaves, painting, clearing. A list is changed in place, without
-// scratch memory, in time in proportion to the records behind the area's first track and to the tracks crossed.
-pub mod pieces;
-pub mod reach;
-pub mod sweeps;
+// scratch memory, in time in proportion to its records and to the tracks crossed; where the area lies behind the last record, to its tracks.
+mod pieces;
+mod reach;
+mod sweeps;
 
 ghost use mathlib.Core.Path.{_≡_};
 ghost use mathlib.Core.Bool.{true};

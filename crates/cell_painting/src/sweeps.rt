@@ -56,13 +56,13 @@ fn sink(list: &mut [i16], from: usize, used: usize, by: usize)
 }
 
 // The list holds the records 0..r, a gap, and the records w..top.
-pub struct Place {
+struct Place {
     pub r: usize,
     pub w: usize,
 }
 
 // One track of a sweep: the records behind the paint go up behind the gap, those that it reaches become what they become, and go up too.
-pub fn step(
+fn step(
     list: &mut [i16],
     r: usize,
     w: usize,

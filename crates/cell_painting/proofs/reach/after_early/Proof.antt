@@ -1,3 +1,4 @@
+-- `after_early` meets its contract.
 use mathlib.Core.Path.{_≡_, refl, sym, ap, _∙_}
 use Prim.Native.Nat.{_-_, _≤_}
 use native.Mathlib.Omega.{arith}
@@ -16,44 +17,35 @@ Inv-loop list n t a s i₀ i = (i ≤ n) × (afterEarly list (toZ w16 t) (toZ w1
 abbrev μ-loop : tie.MeasureT-loop
 μ-loop list n t a s i₀ i = i
 
--- src/lib.rt:82:5
 loop-holds : tie.Need-loop-holds Inv-loop μ-loop
 loop-holds c = (omega arith, refl)
 
--- src/lib.rt:83:29
 sub-early : tie.Need-sub-early Inv-loop μ-loop
 sub-early c = search needs
 
--- src/lib.rt:83:24
 mul-early : tie.Need-mul-early Inv-loop μ-loop
 mul-early c = search needs
 
--- src/lib.rt:83:12
 early-requires : tie.Need-early-requires Inv-loop μ-loop
 early-requires c κs = search needs
 
--- src/lib.rt:84:13
 returns : tie.Need-returns Inv-loop μ-loop
 returns c =
     let l = c .before .before .before in
     let s = l .before in
     sym ((λ i. afterEarly (s .args .list .now) (sym (toZ-ofZ (s .fits .t)) i) (sym (toZ-ofZ (s .fits .a)) i) (ofZ w16 (sym (toZ-ofZ (s .fits .s)) i)) (s .args .n)) ∙ l .loop .inv .1 ∙ first-yes _ _ _ _ (l .loop .i) (l .loop .i - 1) (omega arith) (sym (c .before .early .ensures) ∙ c .if1 .taken))
 
--- src/lib.rt:86:13
 sub-i : tie.Need-sub-i Inv-loop μ-loop
 sub-i c = search needs
 
--- src/lib.rt:82:5
 loop-less : tie.Need-loop-less Inv-loop μ-loop
 loop-less c = search needs
 
--- src/lib.rt:82:5
 loop-again : tie.Need-loop-again Inv-loop μ-loop
 loop-again c =
     let l = c .before .before .before in
     (omega arith, l .loop .inv .1 ∙ first-no _ _ _ _ (l .loop .i) (l .loop .i - 1) (omega arith) (sym (c .before .early .ensures) ∙ c .if1 .left))
 
--- src/lib.rt:77:1
 returns-2 : tie.Need-returns-2 Inv-loop μ-loop
 returns-2 c =
     let l = c .before in

@@ -1,3 +1,4 @@
+-- `early` meets its contract.
 use mathlib.Core.Path.{_∙_}
 use Prim.Native.Nat.{_+_}
 use lib.ListN.{getD}
@@ -12,43 +13,33 @@ use borrow.Author.Needs.{needs}
 use Rattle.cell_painting.proofs.reach.early.Statement.{statement}
 use Rattle.cell_painting.proofs.reach.early.Tie as tie
 
--- src/lib.rt:46:13
 mul-u : tie.Need-mul-u
 mul-u c = search needs
 
--- src/lib.rt:46:13
 shared-slice-copy-out-u : tie.Need-shared-slice-copy-out-u
 shared-slice-copy-out-u c = search needs
 
--- src/lib.rt:47:18
 add-d : tie.Need-add-d
 add-d c = search needs
 
--- src/lib.rt:47:13
 mul-d : tie.Need-mul-d
 mul-d c = search needs
 
--- src/lib.rt:47:13
 shared-slice-copy-out-d : tie.Need-shared-slice-copy-out-d
 shared-slice-copy-out-d c = search needs
 
--- src/lib.rt:48:18
 add-v : tie.Need-add-v
 add-v c = search needs
 
--- src/lib.rt:48:13
 mul-v : tie.Need-mul-v
 mul-v c = search needs
 
--- src/lib.rt:48:13
 shared-slice-copy-out-v : tie.Need-shared-slice-copy-out-v
 shared-slice-copy-out-v c = search needs
 
--- src/lib.rt:49:5
 gap-requires : tie.Need-gap-requires
 gap-requires c κs = search needs
 
--- src/lib.rt:42:1
 returns : tie.Need-returns
 returns c =
     let s = c .before .before .before .before in

@@ -1,3 +1,4 @@
+-- `gap` meets its contract.
 use mathlib.Core.Path.{_≡_, sym, _∙_}
 use mathlib.Core.Bool.{true, false}
 use mir.Facts.{toZ-ofZ}
@@ -7,22 +8,18 @@ use borrow.Author.Needs.{needs}
 use Rattle.cell_painting.proofs.reach.gap.Statement.{statement}
 use Rattle.cell_painting.proofs.reach.gap.Tie as tie
 
--- src/lib.rt:33:8
 before-requires : tie.Need-before-requires
 before-requires c κs = search needs
 
--- src/lib.rt:34:9
 returns : tie.Need-returns
 returns c =
     let s = c .before .before in
     let e : lx (pt (s .args .t) (s .args .p)) (pt (s .args .u) (s .args .q)) ≡ true = (λ i. lx (pt (sym (toZ-ofZ (s .fits .t)) i) (sym (toZ-ofZ (s .fits .p)) i)) (pt (sym (toZ-ofZ (s .fits .u)) i) (sym (toZ-ofZ (s .fits .q)) i))) ∙ sym (c .before .before2 .ensures) ∙ c .if1 .taken in
     rw e
 
--- src/lib.rt:36:8
 before-requires-2 : tie.Need-before-requires-2
 before-requires-2 c κs = search needs
 
--- src/lib.rt:37:9
 returns-2 : tie.Need-returns-2
 returns-2 c =
     let s = c .before .before .before .before in
@@ -30,7 +27,6 @@ returns-2 c =
     let f : lx (pt (s .args .u) (s .args .q)) (pt (s .args .t) (s .args .p)) ≡ true = (λ i. lx (pt (sym (toZ-ofZ (s .fits .u)) i) (sym (toZ-ofZ (s .fits .q)) i)) (pt (sym (toZ-ofZ (s .fits .t)) i) (sym (toZ-ofZ (s .fits .p)) i))) ∙ sym (c .before .before3 .ensures) ∙ c .if2 .taken in
     rw (e, f)
 
--- src/lib.rt:30:1
 returns-3 : tie.Need-returns-3
 returns-3 c =
     let s = c .before .before .before .before in

@@ -1,3 +1,4 @@
+-- `late` meets its contract.
 use mathlib.Core.Path.{_∙_}
 use Prim.Native.Nat.{_+_}
 use lib.ListN.{getD}
@@ -12,43 +13,33 @@ use borrow.Author.Needs.{needs}
 use Rattle.cell_painting.proofs.reach.late.Statement.{statement}
 use Rattle.cell_painting.proofs.reach.late.Tie as tie
 
--- src/lib.rt:56:13
 mul-u : tie.Need-mul-u
 mul-u c = search needs
 
--- src/lib.rt:56:13
 shared-slice-copy-out-u : tie.Need-shared-slice-copy-out-u
 shared-slice-copy-out-u c = search needs
 
--- src/lib.rt:57:18
 add-c : tie.Need-add-c
 add-c c = search needs
 
--- src/lib.rt:57:13
 mul-c : tie.Need-mul-c
 mul-c c = search needs
 
--- src/lib.rt:57:13
 shared-slice-copy-out-c : tie.Need-shared-slice-copy-out-c
 shared-slice-copy-out-c c = search needs
 
--- src/lib.rt:58:18
 add-v : tie.Need-add-v
 add-v c = search needs
 
--- src/lib.rt:58:13
 mul-v : tie.Need-mul-v
 mul-v c = search needs
 
--- src/lib.rt:58:13
 shared-slice-copy-out-v : tie.Need-shared-slice-copy-out-v
 shared-slice-copy-out-v c = search needs
 
--- src/lib.rt:59:5
 gap-requires : tie.Need-gap-requires
 gap-requires c κs = search needs
 
--- src/lib.rt:52:1
 returns : tie.Need-returns
 returns c =
     let s = c .before .before .before .before in

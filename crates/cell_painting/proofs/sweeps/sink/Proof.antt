@@ -1,3 +1,4 @@
+-- `sink` meets its contract.
 use Prim.Native.Nat.{_-_}
 use native.Mathlib.Omega.{arith}
 use Rattle.cell_painting.proofs.Moves.{paste-self}
@@ -5,21 +6,17 @@ use borrow.Author.Needs.{needs}
 use Rattle.cell_painting.proofs.sweeps.sink.Statement.{statement}
 use Rattle.cell_painting.proofs.sweeps.sink.Tie as tie
 
--- src/lib.rt:85:9
 returns : tie.Need-returns
 returns c =
     let s = c .before in
     paste-self (s .args .list .now) (s .args .from) (s .args .from - s .args .by) (s .args .used - s .args .from) (omega arith)
 
--- src/lib.rt:87:5
 move-down-requires : tie.Need-move-down-requires
 move-down-requires c κs = search needs
 
--- src/lib.rt:78:1
 same-length : tie.Need-same-length
 same-length c = search needs
 
--- src/lib.rt:78:1
 returns-2 : tie.Need-returns-2
 returns-2 c = search needs
 
