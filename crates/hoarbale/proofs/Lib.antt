@@ -1,0 +1,2 @@
+pub mod LinePromises
+pub mod Cases
