@@ -29,7 +29,7 @@ pub enum IndexAnswer {
 pub fn origin_zero_line(line: GridLine, explicit: u16) -> OriginZeroAnswer
     ensures { λ r. ⌜ r ≡ originZeroAnswer (line .0) explicit ⌝ }
 {
-    if explicit > 10000 {
+    if 10000 < explicit {
         return OriginZeroAnswer::Refused(11);
     }
     if line.0 == 0 {
