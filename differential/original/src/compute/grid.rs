@@ -4,6 +4,7 @@ use crate::style::{GridAutoFlow, OriginZeroGridPlacement};
 
 pub(crate) mod types;
 
+#[rustfmt::skip]
 #[path = "../../../../docs/src/src/compute/grid/placement.rs"]
 mod placement;
 

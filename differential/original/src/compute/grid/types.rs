@@ -2,11 +2,14 @@
 use crate::geometry::Line;
 
 #[allow(dead_code)]
+#[rustfmt::skip]
 #[path = "../../../../../docs/src/src/compute/grid/types/cell_occupancy.rs"]
 mod cell_occupancy;
 #[allow(dead_code)]
+#[rustfmt::skip]
 #[path = "../../../../../docs/src/src/compute/grid/types/coordinates.rs"]
 mod coordinates;
+#[rustfmt::skip]
 #[path = "../../../../../docs/src/src/compute/grid/types/grid_track_counts.rs"]
 mod grid_track_counts;
 
