@@ -1,0 +1,4 @@
+pub mod Axis
+pub mod Search
+pub mod Walk
+pub mod Request
