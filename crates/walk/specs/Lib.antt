@@ -2,3 +2,4 @@ pub mod Axis
 pub mod Search
 pub mod Walk
 pub mod Request
+pub mod OnList
