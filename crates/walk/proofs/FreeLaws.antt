@@ -1,6 +1,6 @@
 -- Free areas, and what each step settles.
 use mathlib.Core.Path.{_≡_, refl}
-use mathlib.Core.Bool.{true, false}
+use mathlib.Core.Bool.{true, false, Bool}
 use mathlib.Core.List.{List}
 use Prim.Native.Nat.{ℕ}
 use lib.IntN.{ℤ, pos, _+ℤ_}
@@ -9,11 +9,13 @@ use Rattle.signed.proofs.Laws.{signed, sum}
 use Rattle.coordinates.specs.declared.Lines.{Lines}
 use Rattle.grid_track_counts.specs.declared.TrackCounts.{TrackCounts}
 use Rattle.grid_track_counts.specs.Counts.{gridStart, gridEnd}
+use Rattle.walk.specs.declared.Placement.the-variants.{Fixed, Spanned}
 use Rattle.walk.specs.Axis.{Axis, col, row, on, laid, from, Extent}
-use Rattle.walk.specs.Search.{firstLine, Place}
-use Rattle.walk.specs.Walk.{Tile, Board, Setting, free, freeAt, freeAcross, freePair, start2, choose2, start4, chooseLine, overwide, pairOf, untested, choosePair}
+use Rattle.walk.specs.Search.{firstLine, Place, at}
+use Rattle.walk.specs.Walk.{Tile, Board, Setting, free, freeAt, freeAcross, freePair, start2, choose2, start4, chooseLine, overwide, pairOf, choosePair, choose1, Choice}
+use Rattle.walk.specs.Rules.{FirstLine, FirstPair, Rule1, Rule2, Rule4, takes, finds, finds-line, finds-pair, lays-untested}
 use Rattle.walk.proofs.Tests.{Every, nil, more}
-use Rattle.walk.proofs.SearchLaws.{FirstLine, FirstPair, firstLine-first, firstPair-first}
+use Rattle.walk.proofs.SearchLaws.{firstLine-first, firstPair-first, first-unique, pair-unique}
 use Rattle.walk.proofs.LinesLaws.{AreaLimited, in-grid-on, overlap-not}
 
 -- the tiles are in the grid
@@ -60,37 +62,43 @@ module _ (w : Setting) (t : Board) (g : Tiled (t .tiles)) where
       firstPair-first n (gridEnd c) (gridStart c) (freePair w t n m) (λ y x h. beyond-secondary (w .axis) (from y n) (from x m) g h) (fits-is n e)
       (t .cursor .primary) (t .cursor .secondary)
 
--- the same, of what is chosen: the area is laid at the first free line, or pair
-pub record Settled2 (w : Setting) (n : ℕ) (s : Lines) (t : Board) : Type 0 where
-  pub line : ℤ
-  pub taken : choose2 w n s t .area ≡ laid (w .axis) (from line n) s
-  pub first : FirstLine (freeAt w t n s) (start2 w (s .start) t) line
+-- what each step chooses keeps its rule
+pub choose1-rule : (w : Setting) (p s : Lines) (t : Board) → Rule1 w t (Fixed p) (Fixed s) (choose1 w p s t)
+unfolding choose1
+choose1-rule w p s t = takes
 
-pub choose2-first : (w : Setting) (n : ℕ) (s : Lines) (t : Board) → Tiled (t .tiles) → Settled2 w n s t
+pub choose2-rule : (w : Setting) (n : ℕ) (s : Lines) (t : Board) → Tiled (t .tiles) → Rule2 w t (Spanned n) (Fixed s) (choose2 w n s t)
 unfolding choose2
-choose2-first w n s t g = record { line = firstLine (freeAt w t n s) (start2 w (s .start) t); taken = refl; first = step2-first w t g n s }
+choose2-rule w n s t g = finds (step2-first w t g n s)
 
-pub record SettledLine (w : Setting) (once : Place) (p : Lines) (m : ℕ) (t : Board) : Type 0 where
-  pub line : ℤ
-  pub taken : chooseLine w once p m t .area ≡ laid (w .axis) p (from line m)
-  pub first : FirstLine (freeAcross w t p m) (start4 w (p .start) t) line
-
-pub chooseLine-first : (w : Setting) (once : Place) (p : Lines) (m : ℕ) (t : Board) → Tiled (t .tiles) → SettledLine w once p m t
+pub chooseLine-rule : (w : Setting) (once : Place) (p : Lines) (m : ℕ) (t : Board) → Tiled (t .tiles) → Rule4 w once t (Fixed p) (Spanned m) (chooseLine w once p m t)
 unfolding chooseLine
-chooseLine-first w once p m t g = record { line = firstLine (freeAcross w t p m) (start4 w (p .start) t); taken = refl; first = line-first w t g p m }
+chooseLine-rule w once p m t g = finds-line (line-first w t g p m)
 
-pub record SettledPair (w : Setting) (once : Place) (n m : ℕ) (t : Board) : Type 0 where
-  pub place : Place
-  pub taken : choosePair w once n m t .area ≡ laid (w .axis) (from (place .primary) n) (from (place .secondary) m)
-  pub unmarked : choosePair w once n m t .flags ≡ 0
-  pub first : FirstPair n (gridEnd (on (w .axis) (t .counts))) (gridStart (on (w .axis) (t .counts))) (freePair w t n m) (t .cursor .primary) (t .cursor .secondary) place
-
-pub choosePair-first : (w : Setting) (once : Place) (n m : ℕ) (t : Board) → Tiled (t .tiles) → overwide n (on (w .axis) (t .counts)) ≡ false → SettledPair w once n m t
+pub choosePair-rule : (w : Setting) (once : Place) (n m : ℕ) (t : Board) → Tiled (t .tiles) → Rule4 w once t (Spanned n) (Spanned m) (choosePair w once n m t)
 unfolding choosePair
-choosePair-first w once n m t g e = record { place = pairOf w n m t; taken = rw e; unmarked = rw e; first = pair-first w t g n m e }
+choosePair-rule w once n m t g = go (overwide n (on (w .axis) (t .counts))) refl
+  where
+    go : (b : Bool) → overwide n (on (w .axis) (t .counts)) ≡ b → Rule4 w once t (Spanned n) (Spanned m) (choosePair w once n m t)
+    go true e = rw e (lays-untested e)
+    go false e = rw e (finds-pair e (pair-first w t g n m e))
 
--- an overwide span is laid at the grid start, untested, and marked 4
-pub choosePair-wide : (w : Setting) (once : Place) (n m : ℕ) (t : Board) → overwide n (on (w .axis) (t .counts)) ≡ true
-    → (choosePair w once n m t .area ≡ laid (w .axis) (from (untested w t .primary) n) (from (untested w t .secondary) m)) × (choosePair w once n m t .flags ≡ 4)
+-- and nothing else keeps it
+pub rule1-only : (w : Setting) (t : Board) (p s : Lines) (h : Choice) → Rule1 w t (Fixed p) (Fixed s) h → choose1 w p s t ≡ h
+unfolding choose1
+rule1-only w t p s h takes = refl
+
+pub rule2-only : (w : Setting) (t : Board) (n : ℕ) (s : Lines) (h : Choice) → Tiled (t .tiles) → Rule2 w t (Spanned n) (Fixed s) h → choose2 w n s t ≡ h
+unfolding choose2
+rule2-only w t n s h g (finds f) = rw (first-unique (step2-first w t g n s) f)
+
+pub rule4-line-only : (w : Setting) (once : Place) (t : Board) (p : Lines) (m : ℕ) (h : Choice) → Tiled (t .tiles) → Rule4 w once t (Fixed p) (Spanned m) h → chooseLine w once p m t ≡ h
+unfolding chooseLine
+rule4-line-only w once t p m h g (finds-line f) = rw (first-unique (line-first w t g p m) f)
+
+pub rule4-pair-only : (w : Setting) (once : Place) (t : Board) (n m : ℕ) (h : Choice) → Tiled (t .tiles) → Rule4 w once t (Spanned n) (Spanned m) h → choosePair w once n m t ≡ h
 unfolding choosePair
-choosePair-wide w once n m t e = (rw e, rw e)
+rule4-pair-only w once t n m h g (finds-pair {y} {x} e f) =
+    let c = on (w .axis) (t .counts) in
+    rw (e, pair-unique n (gridEnd c) (gridStart c) (freePair w t n m) (t .cursor .primary) (t .cursor .secondary) (pairOf w n m t) (at y x) (pair-first w t g n m e) f)
+rule4-pair-only w once t n m h g (lays-untested e) = rw e

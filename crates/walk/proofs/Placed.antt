@@ -10,17 +10,17 @@ use lib.Dec.{eqb, ltb}
 use lib.IntN.{ℤ, pos}
 use lib.ListN.{length, getD, set, drop}
 use lib.Seq.{sets, length-sets, drop-cons, drop-set-lt, getD-set-same, getD-set-other}
-use Rattle.coordinates.specs.declared.Lines.{Lines}
 use Rattle.grid_track_counts.specs.declared.TrackCounts.{TrackCounts}
 use Rattle.walk.specs.declared.Placement.{Placement}
 use Rattle.walk.specs.declared.Placement.the-variants.{Fixed, Spanned}
-use Rattle.walk.specs.Axis.{col, row, other, Both, on}
+use Rattle.walk.specs.Axis.{other, Both, on}
 use Rattle.walk.specs.Search.{Place}
-use Rattle.walk.specs.Walk.{Item, Queued, Tile, Board, Setting, Choice, Run, going, stopped, tileOf, laidOn, recordsOn, short, judged, put, choose1, step1, choose2, step2, chooseLine, choosePair, step4, andThen, each, begin4, last4, walk}
+use Rattle.walk.specs.Walk.{Item, Queued, Tile, Board, Setting, Choice, Run, going, tileOf, laidOn, put, choose1, step1, choose2, step2, chooseLine, choosePair, step4, andThen, each, begin4, last4, walk, bit}
 use Rattle.walk.specs.Request.{numbers, answerOf, answersOf, upTo, queue}
 use Rattle.walk.specs.OnList.{written}
-use Rattle.walk.proofs.Tests.{Every, nil, more}
-use Rattle.walk.proofs.WalkLaws.{put-going, never, stay, went, each-keeps, Move, stays, lays, move1, move2, move4, anyone}
+use Rattle.walk.specs.Rules.{mine1, mine2, mine4}
+use Rattle.walk.proofs.Tests.{Every, nil, more, clash}
+use Rattle.walk.proofs.WalkLaws.{put-going, stay, went, each-keeps, Move, stays, lays, move1, move2, move4, anyone}
 
 -- ---- each item has its tile
 
@@ -31,20 +31,20 @@ pub data Has (i : ℕ) : List Tile → Type 0 where
 moved-has : (w : Setting) (i j : ℕ) (t b : Board) → Has i (t .tiles) → Move w j t b → Has i (b .tiles)
 unfolding laidOn
 moved-has w i j t b h (stays e) = rw (← e) h
-moved-has w i j t b h (lays x st e) = rw (← e) (that h)
+moved-has w i j t b h (lays x st m e) = rw (← e) (that h)
 
 laid-has : (w : Setting) (i : ℕ) (x : Choice) (t b : Board) → put w i x t ≡ going b → Has i (b .tiles)
 unfolding laidOn tileOf
 laid-has w i x t b e = rw (← (put-going w i x t b e)) (this refl)
 
 -- a step that lays each item of a class gives each its tile
-module _ (w : Setting) (f : ℕ → Placement → Placement → Board → Run) (C : Placement → Placement → Type 0)
+module _ (w : Setting) (f : ℕ → Placement → Placement → Board → Run) (C : Placement → Placement → Bool)
     (move : (i : ℕ) (p s : Placement) (t b : Board) → f i p s t ≡ going b → Move w i t b)
-    (mine : (i : ℕ) (p s : Placement) (t b : Board) → C p s → f i p s t ≡ going b → Has i (b .tiles)) where
+    (mine : (i : ℕ) (p s : Placement) (t b : Board) → C p s ≡ true → f i p s t ≡ going b → Has i (b .tiles)) where
   each-carries : (i : ℕ) (qs : List Queued) (t b : Board) → Has i (t .tiles) → each w f qs t ≡ going b → Has i (b .tiles)
   each-carries i qs t b h e = each-keeps w f (λ _ _ _. Unit {0}) (λ _ x. Has i (x .tiles)) (λ _ j p s x y _ k g. moved-has w i j x y k (move j p s x y g)) qs 0 t b (anyone qs) h e
 
-  each-has : (qs : List Queued) (t b : Board) → each w f qs t ≡ going b → Every (λ (q : Queued). C (on (w .axis) (q .item)) (on (other (w .axis)) (q .item)) → Has (q .index) (b .tiles)) qs
+  each-has : (qs : List Queued) (t b : Board) → each w f qs t ≡ going b → Every (λ (q : Queued). C (on (w .axis) (q .item)) (on (other (w .axis)) (q .item)) ≡ true → Has (q .index) (b .tiles)) qs
   unfolding each
   each-has [] t b e = nil
   each-has (q ∷ qs) t b e =
@@ -52,35 +52,33 @@ module _ (w : Setting) (f : ℕ → Placement → Placement → Board → Run) (
       more (λ c. each-carries (q .index) qs (v .middle) b (mine (q .index) (on (w .axis) (q .item)) (on (other (w .axis)) (q .item)) t (v .middle) c (v .first)) (v .second))
       (each-has qs (v .middle) b (v .second))
 
-data In1 : Placement → Placement → Type 0 where
-  in1 : {p s : Lines} → In1 (Fixed p) (Fixed s)
-
-data In2 : Placement → Placement → Type 0 where
-  in2 : {n : ℕ} {s : Lines} → In2 (Spanned n) (Fixed s)
-
-data In4 : Placement → Placement → Type 0 where
-  in4-line : {p : Lines} {m : ℕ} → In4 (Fixed p) (Spanned m)
-  in4-pair : {n m : ℕ} → In4 (Spanned n) (Spanned m)
-
 module _ (w : Setting) where
-  mine1 : (i : ℕ) (p s : Placement) (t b : Board) → In1 p s → step1 w i p s t ≡ going b → Has i (b .tiles)
+  has1 : (i : ℕ) (p s : Placement) (t b : Board) → mine1 p s ≡ true → step1 w i p s t ≡ going b → Has i (b .tiles)
   unfolding step1
-  mine1 i _ _ t b (in1 {p} {s}) e = laid-has w i (choose1 w p s t) t b e
+  has1 i (Fixed p) (Fixed s) t b c e = laid-has w i (choose1 w p s t) t b e
+  has1 i (Fixed p) (Spanned m) t b c e = clash c refl
+  has1 i (Spanned n) (Fixed s) t b c e = clash c refl
+  has1 i (Spanned n) (Spanned m) t b c e = clash c refl
 
-  mine2 : (i : ℕ) (p s : Placement) (t b : Board) → In2 p s → step2 w i p s t ≡ going b → Has i (b .tiles)
+  has2 : (i : ℕ) (p s : Placement) (t b : Board) → mine2 p s ≡ true → step2 w i p s t ≡ going b → Has i (b .tiles)
   unfolding step2
-  mine2 i _ _ t b (in2 {n} {s}) e = laid-has w i (choose2 w n s t) t b e
+  has2 i (Fixed p) (Fixed s) t b c e = clash c refl
+  has2 i (Fixed p) (Spanned m) t b c e = clash c refl
+  has2 i (Spanned n) (Fixed s) t b c e = laid-has w i (choose2 w n s t) t b e
+  has2 i (Spanned n) (Spanned m) t b c e = clash c refl
 
-  mine4 : (once : Place) (i : ℕ) (p s : Placement) (t b : Board) → In4 p s → step4 w once i p s t ≡ going b → Has i (b .tiles)
+  has4 : (once : Place) (i : ℕ) (p s : Placement) (t b : Board) → mine4 p s ≡ true → step4 w once i p s t ≡ going b → Has i (b .tiles)
   unfolding step4
-  mine4 once i _ _ t b (in4-line {p} {m}) e = laid-has w i (chooseLine w once p m t) t b e
-  mine4 once i _ _ t b (in4-pair {n} {m}) e = laid-has w i (choosePair w once n m t) t b e
+  has4 once i (Fixed p) (Fixed s) t b c e = clash c refl
+  has4 once i (Fixed p) (Spanned m) t b c e = laid-has w i (chooseLine w once p m t) t b e
+  has4 once i (Spanned n) (Fixed s) t b c e = clash c refl
+  has4 once i (Spanned n) (Spanned m) t b c e = laid-has w i (choosePair w once n m t) t b e
 
-  one-of : {H : Type 0} (p s : Placement) → (In1 p s → H) → (In2 p s → H) → (In4 p s → H) → H
-  one-of (Fixed p) (Fixed s) f g h = f in1
-  one-of (Fixed p) (Spanned m) f g h = h in4-line
-  one-of (Spanned n) (Fixed s) f g h = g in2
-  one-of (Spanned n) (Spanned m) f g h = h in4-pair
+  one-of : {H : Type 0} (p s : Placement) → (mine1 p s ≡ true → H) → (mine2 p s ≡ true → H) → (mine4 p s ≡ true → H) → H
+  one-of (Fixed p) (Fixed s) f g h = f refl
+  one-of (Fixed p) (Spanned m) f g h = h refl
+  one-of (Spanned n) (Fixed s) f g h = g refl
+  one-of (Spanned n) (Spanned m) f g h = h refl
 
   three : {A B C D : Queued → Type 0} {qs : List Queued} → ((q : Queued) → A q → B q → C q → D q) → Every A qs → Every B qs → Every C qs → Every D qs
   three f nil nil nil = nil
@@ -93,43 +91,26 @@ module _ (w : Setting) where
       let v = went (each w (step1 w) qs t) (λ b₁. andThen (each w (step2 w) qs b₁) (λ b₂. last4 w qs (begin4 w growth b₂))) b e in
       let u = went (each w (step2 w) qs (v .middle)) (λ b₂. last4 w qs (begin4 w growth b₂)) b (v .second) in
       let c = begin4 w growth (u .middle) in
-      let h₁ = each-has w (step1 w) In1 (λ i p s x y f. move1 w i p s x y f) (λ i p s x y k f. mine1 i p s x y k f) qs t (v .middle) (v .first) in
-      let h₂ = each-has w (step2 w) In2 (λ i p s x y f. move2 w i p s x y f) (λ i p s x y k f. mine2 i p s x y k f) qs (v .middle) (u .middle) (u .first) in
-      let h₄ = each-has w (step4 w (c .cursor)) In4 (λ i p s x y f. move4 w (c .cursor) i p s x y f) (λ i p s x y k f. mine4 (c .cursor) i p s x y k f) qs c b (u .second) in
+      let h₁ = each-has w (step1 w) mine1 (λ i p s x y f. move1 w i p s x y f) (λ i p s x y k f. has1 i p s x y k f) qs t (v .middle) (v .first) in
+      let h₂ = each-has w (step2 w) mine2 (λ i p s x y f. move2 w i p s x y f) (λ i p s x y k f. has2 i p s x y k f) qs (v .middle) (u .middle) (u .first) in
+      let h₄ = each-has w (step4 w (c .cursor)) mine4 (λ i p s x y f. move4 w (c .cursor) i p s x y f) (λ i p s x y k f. has4 (c .cursor) i p s x y k f) qs c b (u .second) in
       three (λ q f g h. one-of (on (w .axis) (q .item)) (on (other (w .axis)) (q .item)) (λ k. end4 (u .middle) (u .second) (q .index) (mid2 (v .middle) (u .middle) (u .first) (q .index) (f k))) (λ k. end4 (u .middle) (u .second) (q .index) (g k)) h) h₁ h₂ h₄
     where
       mid2 : (x y : Board) → each w (step2 w) qs x ≡ going y → (i : ℕ) → Has i (x .tiles) → Has i (y .tiles)
-      mid2 x y f i h = each-carries w (step2 w) In2 (λ i p s x y f. move2 w i p s x y f) (λ i p s x y k f. mine2 i p s x y k f) i qs x y h f
+      mid2 x y f i h = each-carries w (step2 w) mine2 (λ i p s x y f. move2 w i p s x y f) (λ i p s x y k f. has2 i p s x y k f) i qs x y h f
 
       end4 : (x : Board) → last4 w qs (begin4 w growth x) ≡ going b → (i : ℕ) → Has i (x .tiles) → Has i (b .tiles)
       end4 x f i h =
           let c = begin4 w growth x in
-          each-carries w (step4 w (c .cursor)) In4 (λ i p s x y f. move4 w (c .cursor) i p s x y f) (λ i p s x y k f. mine4 (c .cursor) i p s x y k f) i qs c b h f
+          each-carries w (step4 w (c .cursor)) mine4 (λ i p s x y f. move4 w (c .cursor) i p s x y f) (λ i p s x y k f. has4 (c .cursor) i p s x y k f) i qs c b h f
 
 -- ---- and one tile only: a run lays as many tiles as it has items
 
-abbrev Weight : Type 0
-Weight = Placement → Placement → ℕ
+-- 1 where the step takes the item up
+abbrev one : (Placement → Placement → Bool) → Placement → Placement → ℕ
+one c p s = bit 1 (c p s)
 
-abbrev c1 : Weight
-c1 (Fixed p) (Fixed s) = 1
-c1 (Fixed p) (Spanned m) = 0
-c1 (Spanned n) (Fixed s) = 0
-c1 (Spanned n) (Spanned m) = 0
-
-abbrev c2 : Weight
-c2 (Fixed p) (Fixed s) = 0
-c2 (Fixed p) (Spanned m) = 0
-c2 (Spanned n) (Fixed s) = 1
-c2 (Spanned n) (Spanned m) = 0
-
-abbrev c4 : Weight
-c4 (Fixed p) (Fixed s) = 0
-c4 (Fixed p) (Spanned m) = 1
-c4 (Spanned n) (Fixed s) = 0
-c4 (Spanned n) (Spanned m) = 1
-
-one-step : (p s : Placement) → c1 p s + c2 p s + c4 p s ≡ 1
+one-step : (p s : Placement) → one mine1 p s + one mine2 p s + one mine4 p s ≡ 1
 one-step (Fixed p) (Fixed s) = refl
 one-step (Fixed p) (Spanned m) = refl
 one-step (Spanned n) (Fixed s) = refl
@@ -143,40 +124,40 @@ none-laid : (t b : Board) → going t ≡ going b → length (b .tiles) ≡ 0 + 
 none-laid t b e = rw (← (stay e)) (omega arith)
 
 module _ (w : Setting) where
-  total : Weight → List Queued → ℕ
+  total : (Placement → Placement → Bool) → List Queued → ℕ
   total c [] = 0
-  total c (q ∷ qs) = c (on (w .axis) (q .item)) (on (other (w .axis)) (q .item)) + total c qs
+  total c (q ∷ qs) = one c (on (w .axis) (q .item)) (on (other (w .axis)) (q .item)) + total c qs
 
-  total-all : (qs : List Queued) → total c1 qs + total c2 qs + total c4 qs ≡ length qs
+  total-all : (qs : List Queued) → total mine1 qs + total mine2 qs + total mine4 qs ≡ length qs
   unfolding total
   total-all [] = refl
   total-all (q ∷ qs) = omega (arith, total-all qs, one-step (on (w .axis) (q .item)) (on (other (w .axis)) (q .item)))
 
-  each-count : (f : ℕ → Placement → Placement → Board → Run) (c : Weight) → ((i : ℕ) (p s : Placement) (t b : Board) → f i p s t ≡ going b → length (b .tiles) ≡ c p s + length (t .tiles))
+  each-count : (f : ℕ → Placement → Placement → Board → Run) (c : Placement → Placement → Bool) → ((i : ℕ) (p s : Placement) (t b : Board) → f i p s t ≡ going b → length (b .tiles) ≡ one c p s + length (t .tiles))
       → (qs : List Queued) (t b : Board) → each w f qs t ≡ going b → length (b .tiles) ≡ total c qs + length (t .tiles)
   unfolding each total
-  each-count f c one [] t b e = none-laid t b e
-  each-count f c one (q ∷ qs) t b e =
+  each-count f c ones [] t b e = none-laid t b e
+  each-count f c ones (q ∷ qs) t b e =
       let v = went (f (q .index) (on (w .axis) (q .item)) (on (other (w .axis)) (q .item)) t) (λ u. each w f qs u) b e in
-      let h = one (q .index) (on (w .axis) (q .item)) (on (other (w .axis)) (q .item)) t (v .middle) (v .first) in
-      let k = each-count f c one qs (v .middle) b (v .second) in
+      let h = ones (q .index) (on (w .axis) (q .item)) (on (other (w .axis)) (q .item)) t (v .middle) (v .first) in
+      let k = each-count f c ones qs (v .middle) b (v .second) in
       omega arith
 
-  lays1 : (i : ℕ) (p s : Placement) (t b : Board) → step1 w i p s t ≡ going b → length (b .tiles) ≡ c1 p s + length (t .tiles)
+  lays1 : (i : ℕ) (p s : Placement) (t b : Board) → step1 w i p s t ≡ going b → length (b .tiles) ≡ one mine1 p s + length (t .tiles)
   unfolding step1
   lays1 i (Fixed p) (Fixed s) t b e = laid-one w i (choose1 w p s t) t b e
   lays1 i (Fixed p) (Spanned m) t b e = none-laid t b e
   lays1 i (Spanned n) (Fixed s) t b e = none-laid t b e
   lays1 i (Spanned n) (Spanned m) t b e = none-laid t b e
 
-  lays2 : (i : ℕ) (p s : Placement) (t b : Board) → step2 w i p s t ≡ going b → length (b .tiles) ≡ c2 p s + length (t .tiles)
+  lays2 : (i : ℕ) (p s : Placement) (t b : Board) → step2 w i p s t ≡ going b → length (b .tiles) ≡ one mine2 p s + length (t .tiles)
   unfolding step2
   lays2 i (Fixed p) (Fixed s) t b e = none-laid t b e
   lays2 i (Fixed p) (Spanned m) t b e = none-laid t b e
   lays2 i (Spanned n) (Fixed s) t b e = laid-one w i (choose2 w n s t) t b e
   lays2 i (Spanned n) (Spanned m) t b e = none-laid t b e
 
-  lays4 : (once : Place) (i : ℕ) (p s : Placement) (t b : Board) → step4 w once i p s t ≡ going b → length (b .tiles) ≡ c4 p s + length (t .tiles)
+  lays4 : (once : Place) (i : ℕ) (p s : Placement) (t b : Board) → step4 w once i p s t ≡ going b → length (b .tiles) ≡ one mine4 p s + length (t .tiles)
   unfolding step4
   lays4 once i (Fixed p) (Fixed s) t b e = none-laid t b e
   lays4 once i (Fixed p) (Spanned m) t b e = laid-one w i (chooseLine w once p m t) t b e
@@ -189,60 +170,10 @@ module _ (w : Setting) where
       let v = went (each w (step1 w) qs t) (λ b₁. andThen (each w (step2 w) qs b₁) (λ b₂. last4 w qs (begin4 w growth b₂))) b e in
       let u = went (each w (step2 w) qs (v .middle)) (λ b₂. last4 w qs (begin4 w growth b₂)) b (v .second) in
       let c = begin4 w growth (u .middle) in
-      let n₁ = each-count (step1 w) c1 lays1 qs t (v .middle) (v .first) in
-      let n₂ = each-count (step2 w) c2 lays2 qs (v .middle) (u .middle) (u .first) in
-      let n₄ = each-count (step4 w (c .cursor)) c4 (lays4 (c .cursor)) qs c b (u .second) in
+      let n₁ = each-count (step1 w) mine1 lays1 qs t (v .middle) (v .first) in
+      let n₂ = each-count (step2 w) mine2 lays2 qs (v .middle) (u .middle) (u .first) in
+      let n₄ = each-count (step4 w (c .cursor)) mine4 (lays4 (c .cursor)) qs c b (u .second) in
       omega (arith, total-all qs)
-
--- ---- the lists have room
-
-pub record Roomy (w : Setting) (b : Board) : Type 0 where
-  pub rows : 4 * length (recordsOn row (b .tiles)) ≤ w .room .rows
-  pub columns : 4 * length (recordsOn col (b .tiles)) ≤ w .room .columns
-
-pub put-room : (w : Setting) (i : ℕ) (h : Choice) (t b : Board) → put w i h t ≡ going b → Roomy w b
-unfolding put judged short
-put-room w i h t b e = go (short w row c) (short w col c) refl refl e
-  where
-    c : Board
-    c = laidOn i h t
-
-    go : (x y : Bool) → short w row c ≡ x → short w col c ≡ y → cond x (stopped 7 i) (cond y (stopped 8 i) (going c)) ≡ going b → Roomy w b
-    go true y f g k = never k
-    go false true f g k = never k
-    go false false f g k = rw (← (stay k)) (record { rows = ltb-false (w .room .rows) (4 * length (recordsOn row (c .tiles))) f; columns = ltb-false (w .room .columns) (4 * length (recordsOn col (c .tiles))) g })
-
--- an item is passed over, or its tile is laid and there is room for it
-roomed1 : (w : Setting) (i : ℕ) (p s : Placement) (t b : Board) → Roomy w t → step1 w i p s t ≡ going b → Roomy w b
-unfolding step1
-roomed1 w i (Fixed p) (Fixed s) t b r e = put-room w i (choose1 w p s t) t b e
-roomed1 w i (Fixed p) (Spanned m) t b r e = rw (← (stay e)) r
-roomed1 w i (Spanned n) (Fixed s) t b r e = rw (← (stay e)) r
-roomed1 w i (Spanned n) (Spanned m) t b r e = rw (← (stay e)) r
-
-roomed2 : (w : Setting) (i : ℕ) (p s : Placement) (t b : Board) → Roomy w t → step2 w i p s t ≡ going b → Roomy w b
-unfolding step2
-roomed2 w i (Fixed p) (Fixed s) t b r e = rw (← (stay e)) r
-roomed2 w i (Fixed p) (Spanned m) t b r e = rw (← (stay e)) r
-roomed2 w i (Spanned n) (Fixed s) t b r e = put-room w i (choose2 w n s t) t b e
-roomed2 w i (Spanned n) (Spanned m) t b r e = rw (← (stay e)) r
-
-roomed4 : (w : Setting) (once : Place) (i : ℕ) (p s : Placement) (t b : Board) → Roomy w t → step4 w once i p s t ≡ going b → Roomy w b
-unfolding step4
-roomed4 w once i (Fixed p) (Fixed s) t b r e = rw (← (stay e)) r
-roomed4 w once i (Fixed p) (Spanned m) t b r e = put-room w i (chooseLine w once p m t) t b e
-roomed4 w once i (Spanned n) (Fixed s) t b r e = rw (← (stay e)) r
-roomed4 w once i (Spanned n) (Spanned m) t b r e = put-room w i (choosePair w once n m t) t b e
-
-pub walk-roomy : (w : Setting) (growth : Both TrackCounts → Both TrackCounts) (qs : List Queued) (t b : Board) → Roomy w t → walk w growth qs t ≡ going b → Roomy w b
-unfolding walk last4 begin4
-walk-roomy w growth qs t b k e =
-    let v = went (each w (step1 w) qs t) (λ b₁. andThen (each w (step2 w) qs b₁) (λ b₂. last4 w qs (begin4 w growth b₂))) b e in
-    let u = went (each w (step2 w) qs (v .middle)) (λ b₂. last4 w qs (begin4 w growth b₂)) b (v .second) in
-    let k₁ = each-keeps w (step1 w) (λ _ _ _. Unit {0}) (λ _ x. Roomy w x) (λ _ i p s x y _ h f. roomed1 w i p s x y h f) qs 0 t (v .middle) (anyone qs) k (v .first) in
-    let k₂ = each-keeps w (step2 w) (λ _ _ _. Unit {0}) (λ _ x. Roomy w x) (λ _ i p s x y _ h f. roomed2 w i p s x y h f) qs 0 (v .middle) (u .middle) (anyone qs) k₁ (u .first) in
-    let c = begin4 w growth (u .middle) in
-    each-keeps w (step4 w (c .cursor)) (λ _ _ _. Unit {0}) (λ _ x. Roomy w x) (λ _ i p s x y _ h f. roomed4 w (c .cursor) i p s x y h f) qs 0 c b (anyone qs) (record { rows = k₂ .rows; columns = k₂ .columns }) (u .second)
 
 -- ---- the answers, written item by item
 

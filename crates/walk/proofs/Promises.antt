@@ -22,11 +22,11 @@ use Rattle.walk.specs.OnList.{written}
 use Rattle.walk.proofs.Tests.{Every, nil, more}
 use Rattle.walk.proofs.LinesLaws.{each-on, GrowsBoth, CoversArea, grows-refl, start-low, start-high}
 use Rattle.walk.proofs.FreeLaws.{Tiled}
-use Rattle.walk.proofs.WalkLaws.{Kept, Clear, no-growth, walk-kept, Least, counts-least, grows-same, WithStates, states-kept, walk-keeps}
+use Rattle.walk.proofs.WalkLaws.{Kept, Clear, no-growth, walk-kept, Least, counts-least, grows-same, WithStates, states-kept, Roomy, walk-roomy, walk-keeps}
 use Rattle.walk.proofs.Range.{Run4, run4}
 use Rattle.walk.proofs.Cells.{history, Coloured, Cell, Solid, records-keep, records-cell, free-list}
 use Rattle.walk.proofs.Checks.{Passed, checked-none, good-items, good-queue, halves-length}
-use Rattle.walk.proofs.Placed.{Has, walk-has, walk-count, queue-length, Roomy, written-is, queue-all, queue-below, walk-roomy}
+use Rattle.walk.proofs.Placed.{Has, walk-has, walk-count, queue-length, written-is, queue-all, queue-below}
 
 -- the items of a request, and its queue
 abbrev pub itemsOf : Request → List Item
@@ -137,7 +137,7 @@ module _ (r : Request) (passed : checked r ≡ none) (b : Board) (run : runOf r 
   unfolding laidOn tileOf begin4
   only-items =
       let n = items-length r in
-      walk-keeps (settingOf r) (λ c. c) (λ i. i < itemCount r) (λ x. Every (λ (t : Tile). t .index < itemCount r) (x .tiles)) (λ i h x j _ k. more j k) (λ x k. k)
+      walk-keeps (settingOf r) (λ c. c) (λ i. i < itemCount r) (λ x. Every (λ (t : Tile). t .index < itemCount r) (x .tiles)) (λ i h x j _ _ k. more j k) (λ x k. k)
       (queueOf r) (emptyBoard (r .counts)) b (queue-below (length (itemsOf r)) 0 (itemCount r) (itemsOf r) (omega arith)) nil e
 
   pub one-each : length (b .tiles) ≡ itemCount r

@@ -19,8 +19,9 @@ use Rattle.walk.specs.declared.Placement.the-variants.{Fixed, Spanned}
 use Rattle.walk.specs.Axis.{Axis, col, row, other, on, laid, from, Extent}
 use Rattle.walk.specs.Search.{firstLine, Place, at}
 use Rattle.walk.specs.Walk.{Queued, Tile, Board, Setting, Choice, going, freeAt, freeAcross, freePair, endsOn, largest, largestOr, laidOn, start2, choose1, choose2, start4, chooseLine, overwide, pairOf, untested, choosePair, moved, step4, each}
+use Rattle.walk.specs.Rules.{FirstLine, Tried, here, later}
 use Rattle.walk.proofs.Tests.{Every, nil, more}
-use Rattle.walk.proofs.SearchLaws.{FirstLine, Tried, here, later, firstLine-high, pair-high}
+use Rattle.walk.proofs.SearchLaws.{firstLine-high, pair-high}
 use Rattle.walk.proofs.LinesLaws.{in-grid-on, each-on, start-low, start-high, end-high}
 use Rattle.walk.proofs.FreeLaws.{Tiled, beyond-primary, beyond-secondary, step2-first, line-first, pair-first, fits-is}
 use Rattle.walk.proofs.WalkLaws.{Kept, kept-step4, put-going, each-keeps, stay}

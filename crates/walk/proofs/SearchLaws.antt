@@ -9,17 +9,12 @@ use lib.Signed.{ltZ, _≤ℤ_, _<ℤ_}
 use Rattle.signed.specs.Parts.{up, gap}
 use Rattle.signed.proofs.Laws.{signed, by-test, sum}
 use Rattle.walk.specs.Search.{lineFrom, firstLine, among, Place, at, orElse, pairFrom, placesTo, firstPair}
+use Rattle.walk.specs.Rules.{FirstLine, FirstPair, Tried, here, later}
 use Rattle.walk.proofs.Tests.{clash}
 
 -- y is from b on, or is below it
 pub side : (b y : ℤ) → (b ≤ℤ y) ⊎ (y <ℤ b)
 side b y = by-test (ltZ y b) (λ t. (b ≤ℤ y) ⊎ (y <ℤ b)) (λ e. inr (omega signed)) (λ e. inl (omega signed))
-
--- r is the first line from z on at which the test passes
-pub record FirstLine (ok : ℤ → Bool) (z r : ℤ) : Type 0 where
-  pub since : z ≤ℤ r
-  pub passes : ok r ≡ true
-  pub fails : (y : ℤ) → z ≤ℤ y → y <ℤ r → ok y ≡ false
 
 -- it is the only one
 pub first-unique : {ok : ℤ → Bool} {z r q : ℤ} → FirstLine ok z r → FirstLine ok z q → r ≡ q
@@ -84,18 +79,6 @@ module _ (ok : ℤ → Bool) (beyond : (y : ℤ) → pos 10000 ≤ℤ y → ok y
       go (inr h) = clash (beyond m b) (f .fails m a h)
 
 -- ---- pairs
-
--- the places that a search from (p, s) tries, where a span of n is to end at or before e and a later secondary line begins at g
-pub data Tried (n : ℕ) (e g p s : ℤ) : ℤ → ℤ → Type 0 where
-  here : {y : ℤ} → p ≤ℤ y → (y +ℤ pos n) ≤ℤ e → Tried n e g p s y s
-  later : {y x : ℤ} → s <ℤ x → g ≤ℤ y → (y +ℤ pos n) ≤ℤ e → Tried n e g p s y x
-
--- r is the first place tried at which the test passes, by secondary line and then by primary line
-pub record FirstPair (n : ℕ) (e g : ℤ) (ok : ℤ → ℤ → Bool) (p s : ℤ) (r : Place) : Type 0 where
-  pub tried : Tried n e g p s (r .primary) (r .secondary)
-  pub passes : ok (r .primary) (r .secondary) ≡ true
-  pub above : (y x : ℤ) → Tried n e g p s y x → x <ℤ r .secondary → ok y x ≡ false
-  pub before : (y : ℤ) → Tried n e g p s y (r .secondary) → y <ℤ r .primary → ok y (r .secondary) ≡ false
 
 pub data Among (ok : ℤ → Bool) (n : ℕ) (p : ℤ) : Option ℤ → Type 0 where
   missed : ((y : ℤ) → p ≤ℤ y → y <ℤ (p +ℤ pos n) → ok y ≡ false) → Among ok n p none

@@ -3,10 +3,10 @@ use mathlib.Core.Path.{_≡_, refl, ap, _∙_}
 use mathlib.Core.Bool.{Bool, true, false, cond}
 use mathlib.Core.Logic.{_≢_}
 use mathlib.Core.List.{List, [], _∷_}
-use Prim.Native.Nat.{ℕ, suc, _+_}
+use Prim.Native.Nat.{ℕ, suc, _+_, _*_, _≤_}
 use native.Mathlib.Omega.{arith}
+use borrow.Author.Tests.{ltb-false}
 use lib.ListN.{length}
-use Rattle.coordinates.specs.declared.Lines.{Lines}
 use Rattle.grid_track_counts.specs.declared.TrackCounts.{TrackCounts}
 use Rattle.grid_track_counts.specs.Counts.{Sound, Grows}
 use Rattle.grid_track_counts.proofs.Promises.{grown-sound, grown-grows, grown-covers, grown-least}
@@ -14,10 +14,11 @@ use Rattle.walk.specs.declared.Placement.{Placement}
 use Rattle.walk.specs.declared.Placement.the-variants.{Fixed, Spanned}
 use Rattle.walk.specs.Axis.{col, row, other, Both, on, Extent, pressedArea, limitedArea, grownBoth}
 use Rattle.walk.specs.Search.{Place}
-use Rattle.walk.specs.Walk.{Queued, Tile, Board, Setting, Choice, Run, going, stopped, bit, free, tileOf, laidOn, short, judged, put, choose1, step1, choose2, step2, chooseLine, choosePair, overwide, step4, andThen, each, begin4, last4, walk}
+use Rattle.walk.specs.Walk.{Queued, Tile, Board, Setting, Choice, Run, going, stopped, bit, free, tileOf, laidOn, short, judged, put, choose1, step1, choose2, step2, chooseLine, choosePair, step4, andThen, each, begin4, last4, walk, recordsOn}
+use Rattle.walk.specs.Rules.{Rule1, Rule2, Rule4, takes, finds, finds-line, finds-pair, lays-untested}
 use Rattle.walk.proofs.Tests.{Every, nil, more, under}
 use Rattle.walk.proofs.LinesLaws.{area-limited, area-not-pressed, Each, CoversArea, GrowsBoth, covers-grows, grows-trans, grows-refl}
-use Rattle.walk.proofs.FreeLaws.{Tiled, choose2-first, chooseLine-first, choosePair-first, choosePair-wide}
+use Rattle.walk.proofs.FreeLaws.{Tiled, choose1-rule, choose2-rule, chooseLine-rule, choosePair-rule}
 
 -- ---- runs
 
@@ -104,46 +105,44 @@ kept-laid i h t fair k =
 
 -- ---- the steps keep the board
 
+fair1 : {w : Setting} {t : Board} {p s : Placement} {h : Choice} → Rule1 w t p s h → Fair t h
+fair1 takes = λ e. absurd (let o : ⊥ = omega arith in o)
+
+fair2 : {w : Setting} {t : Board} {p s : Placement} {h : Choice} → Rule2 w t p s h → Fair t h
+fair2 (finds f) = λ _. f .passes
+
+fair4 : {w : Setting} {once : Place} {t : Board} {p s : Placement} {h : Choice} → Rule4 w once t p s h → Fair t h
+fair4 (finds-line f) = λ _. f .passes
+fair4 (finds-pair e f) = λ _. f .passes
+fair4 (lays-untested e) = λ z. absurd (let o : ⊥ = omega arith in o)
+
 module _ (w : Setting) where
   pub kept-step1 : (i : ℕ) (p s : Placement) (t b : Board) → Kept t → step1 w i p s t ≡ going b → Kept b
   unfolding step1 choose1
   kept-step1 i (Fixed p) (Fixed s) t b k e =
       let h = choose1 w p s t in
-      rw (← (put-going w i h t b e)) (kept-laid i h t (λ o. absurd (let v : ⊥ = omega arith in v)) k)
+      rw (← (put-going w i h t b e)) (kept-laid i h t (fair1 (choose1-rule w p s t)) k)
   kept-step1 i (Fixed p) (Spanned m) t b k e = rw (← (stay e)) k
   kept-step1 i (Spanned n) (Fixed s) t b k e = rw (← (stay e)) k
   kept-step1 i (Spanned n) (Spanned m) t b k e = rw (← (stay e)) k
-
-  fair2 : (n : ℕ) (s : Lines) (t : Board) → Kept t → Fair t (choose2 w n s t)
-  fair2 n s t k = λ _. let v = choose2-first w n s t (k .tiles) in rw (v .taken) (v .first .passes)
 
   pub kept-step2 : (i : ℕ) (p s : Placement) (t b : Board) → Kept t → step2 w i p s t ≡ going b → Kept b
   unfolding step2
   kept-step2 i (Fixed p) (Fixed s) t b k e = rw (← (stay e)) k
   kept-step2 i (Fixed p) (Spanned m) t b k e = rw (← (stay e)) k
   kept-step2 i (Spanned n) (Fixed s) t b k e =
-      let h = choose2 w n s t in rw (← (put-going w i h t b e)) (kept-laid i h t (fair2 n s t k) k)
+      let h = choose2 w n s t in rw (← (put-going w i h t b e)) (kept-laid i h t (fair2 (choose2-rule w n s t (k .tiles))) k)
   kept-step2 i (Spanned n) (Spanned m) t b k e = rw (← (stay e)) k
 
   module _ (once : Place) where
-    fairLine : (p : Lines) (m : ℕ) (t : Board) → Kept t → Fair t (chooseLine w once p m t)
-    fairLine p m t k = λ _. let v = chooseLine-first w once p m t (k .tiles) in rw (v .taken) (v .first .passes)
-
-    fairPair : (n m : ℕ) (t : Board) → Kept t → Fair t (choosePair w once n m t)
-    fairPair n m t k = go (overwide n (on (w .axis) (t .counts))) refl
-      where
-        go : (x : Bool) → overwide n (on (w .axis) (t .counts)) ≡ x → choosePair w once n m t .flags ≡ 0 → free (t .tiles) (choosePair w once n m t .area) ≡ true
-        go true e z = absurd (let v = choosePair-wide w once n m t e .1 in let o : ⊥ = omega arith in o)
-        go false e z = let v = choosePair-first w once n m t (k .tiles) e in rw (v .taken) (v .first .passes)
-
     pub kept-step4 : (i : ℕ) (p s : Placement) (t b : Board) → Kept t → step4 w once i p s t ≡ going b → Kept b
     unfolding step4
     kept-step4 i (Fixed p) (Fixed s) t b k e = rw (← (stay e)) k
     kept-step4 i (Fixed p) (Spanned m) t b k e =
-        let h = chooseLine w once p m t in rw (← (put-going w i h t b e)) (kept-laid i h t (fairLine p m t k) k)
+        let h = chooseLine w once p m t in rw (← (put-going w i h t b e)) (kept-laid i h t (fair4 (chooseLine-rule w once p m t (k .tiles))) k)
     kept-step4 i (Spanned n) (Fixed s) t b k e = rw (← (stay e)) k
     kept-step4 i (Spanned n) (Spanned m) t b k e =
-        let h = choosePair w once n m t in rw (← (put-going w i h t b e)) (kept-laid i h t (fairPair n m t k) k)
+        let h = choosePair w once n m t in rw (← (put-going w i h t b e)) (kept-laid i h t (fair4 (choosePair-rule w once n m t (k .tiles))) k)
 
 -- ---- the whole run
 
@@ -176,6 +175,24 @@ module _ (w : Setting) (growth : Both TrackCounts → Both TrackCounts) (G : Gro
       let c = begin4 w growth (u .middle) in
       each-keeps w (step4 w (c .cursor)) (λ _ _ _. Unit {0}) (λ _ x. Kept x) (λ _ i p s x y _ h f. kept-step4 w (c .cursor) i p s x y h f) qs 0 c b (anyone qs) (kept-begin4 (u .middle) k₂) (u .second)
 
+-- ---- the lists have room
+
+pub record Roomy (w : Setting) (b : Board) : Type 0 where
+  pub rows : 4 * length (recordsOn row (b .tiles)) ≤ w .room .rows
+  pub columns : 4 * length (recordsOn col (b .tiles)) ≤ w .room .columns
+
+pub put-room : (w : Setting) (i : ℕ) (h : Choice) (t b : Board) → put w i h t ≡ going b → Roomy w b
+unfolding put judged short
+put-room w i h t b e = go (short w row c) (short w col c) refl refl e
+  where
+    c : Board
+    c = laidOn i h t
+
+    go : (x y : Bool) → short w row c ≡ x → short w col c ≡ y → cond x (stopped 7 i) (cond y (stopped 8 i) (going c)) ≡ going b → Roomy w b
+    go true y f g k = never k
+    go false true f g k = never k
+    go false false f g k = rw (← (stay k)) (record { rows = ltb-false (w .room .rows) (4 * length (recordsOn row (c .tiles))) f; columns = ltb-false (w .room .columns) (4 * length (recordsOn col (c .tiles))) g })
+
 -- ---- an item is passed over, or one tile is laid
 
 -- "State is 1 for step 1, else 2"
@@ -185,12 +202,15 @@ pub record Stated (w : Setting) (step state : ℕ) : Type 0 where
 
 pub data Move (w : Setting) (i : ℕ) (t b : Board) : Type 0 where
   stays : t ≡ b → Move w i t b
-  lays : (h : Choice) → Stated w (h .step) (h .state) → laidOn i h t ≡ b → Move w i t b
+  lays : (h : Choice) → Stated w (h .step) (h .state) → Roomy w b → laidOn i h t ≡ b → Move w i t b
+
+move-put : (w : Setting) (i : ℕ) (h : Choice) (t b : Board) → Stated w (h .step) (h .state) → put w i h t ≡ going b → Move w i t b
+move-put w i h t b st e = lays h st (put-room w i h t b e) (put-going w i h t b e)
 
 module _ (w : Setting) where
   pub move1 : (i : ℕ) (p s : Placement) (t b : Board) → step1 w i p s t ≡ going b → Move w i t b
   unfolding step1 choose1
-  move1 i (Fixed p) (Fixed s) t b e = lays (choose1 w p s t) (record { first = λ _. refl; others = λ n. absurd (n refl) }) (put-going w i (choose1 w p s t) t b e)
+  move1 i (Fixed p) (Fixed s) t b e = move-put w i (choose1 w p s t) t b (record { first = λ _. refl; others = λ n. absurd (n refl) }) e
   move1 i (Fixed p) (Spanned m) t b e = stays (stay e)
   move1 i (Spanned n) (Fixed s) t b e = stays (stay e)
   move1 i (Spanned n) (Spanned m) t b e = stays (stay e)
@@ -199,21 +219,21 @@ module _ (w : Setting) where
   unfolding step2 choose2
   move2 i (Fixed p) (Fixed s) t b e = stays (stay e)
   move2 i (Fixed p) (Spanned m) t b e = stays (stay e)
-  move2 i (Spanned n) (Fixed s) t b e = lays (choose2 w n s t) (record { first = λ n. absurd (let z : ⊥ = omega arith in z); others = λ _. refl }) (put-going w i (choose2 w n s t) t b e)
+  move2 i (Spanned n) (Fixed s) t b e = move-put w i (choose2 w n s t) t b (record { first = λ n. absurd (let z : ⊥ = omega arith in z); others = λ _. refl }) e
   move2 i (Spanned n) (Spanned m) t b e = stays (stay e)
 
   pub move4 : (once : Place) (i : ℕ) (p s : Placement) (t b : Board) → step4 w once i p s t ≡ going b → Move w i t b
   unfolding step4 chooseLine choosePair
   move4 once i (Fixed p) (Fixed s) t b e = stays (stay e)
-  move4 once i (Fixed p) (Spanned m) t b e = lays (chooseLine w once p m t) (record { first = λ n. absurd (let z : ⊥ = omega arith in z); others = λ _. refl }) (put-going w i (chooseLine w once p m t) t b e)
+  move4 once i (Fixed p) (Spanned m) t b e = move-put w i (chooseLine w once p m t) t b (record { first = λ n. absurd (let z : ⊥ = omega arith in z); others = λ _. refl }) e
   move4 once i (Spanned n) (Fixed s) t b e = stays (stay e)
-  move4 once i (Spanned n) (Spanned m) t b e = lays (choosePair w once n m t) (record { first = λ n. absurd (let z : ⊥ = omega arith in z); others = λ _. refl }) (put-going w i (choosePair w once n m t) t b e)
+  move4 once i (Spanned n) (Spanned m) t b e = move-put w i (choosePair w once n m t) t b (record { first = λ n. absurd (let z : ⊥ = omega arith in z); others = λ _. refl }) e
 
   -- whatever laying a tile keeps, the run keeps, if the growth before step 4 keeps it
-  module _ (growth : Both TrackCounts → Both TrackCounts) (I : ℕ → Type 0) (P : Board → Type 0) (lay : (i : ℕ) (h : Choice) (t : Board) → I i → Stated w (h .step) (h .state) → P t → P (laidOn i h t)) (grow : (t : Board) → P t → P (begin4 w growth t)) where
+  module _ (growth : Both TrackCounts → Both TrackCounts) (I : ℕ → Type 0) (P : Board → Type 0) (lay : (i : ℕ) (h : Choice) (t : Board) → I i → Stated w (h .step) (h .state) → Roomy w (laidOn i h t) → P t → P (laidOn i h t)) (grow : (t : Board) → P t → P (begin4 w growth t)) where
     moved-keeps : {i : ℕ} {t b : Board} → I i → P t → Move w i t b → P b
     moved-keeps j h (stays e) = rw (← e) h
-    moved-keeps {i} {t} j h (lays x st e) = rw (← e) (lay i x t j st h)
+    moved-keeps {i} {t} j h (lays x st m e) = rw (← e) (lay i x t j st (rw e m) h)
 
     pub walk-keeps : (qs : List Queued) (t b : Board) → Every (λ (q : Queued). I (q .index)) qs → P t → walk w growth qs t ≡ going b → P b
     unfolding walk last4
@@ -253,7 +273,7 @@ least-laid c₀ i h t k =
 
 pub counts-least : (w : Setting) (qs : List Queued) (c₀ : Both TrackCounts) (t b : Board) → Least c₀ t → walk w (λ c. c) qs t ≡ going b → Least c₀ b
 unfolding begin4
-counts-least w qs c₀ t b k e = walk-keeps w (λ c. c) (λ _. Unit {0}) (λ x. Least c₀ x) (λ i h x _ _ y. least-laid c₀ i h x y) (λ x y. record { grows = y .grows; covers = y .covers; least = y .least }) qs t b (anyone qs) k e
+counts-least w qs c₀ t b k e = walk-keeps w (λ c. c) (λ _. Unit {0}) (λ x. Least c₀ x) (λ i h x _ _ _ y. least-laid c₀ i h x y) (λ x y. record { grows = y .grows; covers = y .covers; least = y .least }) qs t b (anyone qs) k e
 
 -- and so they are the only ones
 pub grows-same : (c d : TrackCounts) → Grows c d → Grows d c → c ≡ d
@@ -272,4 +292,10 @@ WithStates w = Every (λ (t : Tile). Stated w (t .step) (t .state))
 
 pub states-kept : (w : Setting) (growth : Both TrackCounts → Both TrackCounts) (qs : List Queued) (t b : Board) → WithStates w (t .tiles) → walk w growth qs t ≡ going b → WithStates w (b .tiles)
 unfolding begin4 laidOn tileOf
-states-kept w growth qs t b k e = walk-keeps w growth (λ _. Unit {0}) (λ x. WithStates w (x .tiles)) (λ i h x _ st y. more st y) (λ x y. y) qs t b (anyone qs) k e
+states-kept w growth qs t b k e = walk-keeps w growth (λ _. Unit {0}) (λ x. WithStates w (x .tiles)) (λ i h x _ st _ y. more st y) (λ x y. y) qs t b (anyone qs) k e
+
+-- ---- the room
+
+pub walk-roomy : (w : Setting) (growth : Both TrackCounts → Both TrackCounts) (qs : List Queued) (t b : Board) → Roomy w t → walk w growth qs t ≡ going b → Roomy w b
+unfolding begin4
+walk-roomy w growth qs t b k e = walk-keeps w growth (λ _. Unit {0}) (λ x. Roomy w x) (λ i h x _ _ m _. m) (λ x y. record { rows = y .rows; columns = y .columns }) qs t b (anyone qs) k e
