@@ -10,6 +10,7 @@ pub mod Placed
 pub mod OnLists
 pub mod Loops
 pub mod Ends
+pub mod Ruled
 pub mod Promises
 pub mod Boards
 mod Limits
