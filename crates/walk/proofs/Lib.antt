@@ -1,0 +1,18 @@
+pub mod Tests
+pub mod SearchLaws
+pub mod LinesLaws
+pub mod FreeLaws
+pub mod WalkLaws
+pub mod Range
+pub mod Cells
+pub mod Checks
+pub mod Placed
+pub mod OnLists
+pub mod Loops
+pub mod Ends
+pub mod Ruled
+pub mod Promises
+pub mod Boards
+mod Limits
+mod Telling
+mod Six

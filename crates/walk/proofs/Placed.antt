@@ -1,0 +1,310 @@
+-- Every item is placed, the lists have room, and the answers are what is written item by item.
+use mathlib.Core.Path.{_≡_, refl, sym, ap, _∙_}
+use mathlib.Core.Logic.{_≢_}
+use mathlib.Core.Bool.{Bool, true, false, cond}
+use mathlib.Core.List.{List, [], _∷_, _++_, append-assoc}
+use Prim.Native.Nat.{ℕ, zero, suc, _+_, _*_, _≤_, _<_}
+use native.Mathlib.Omega.{arith}
+use borrow.Author.Tests.{eqb-true, eqb-false, ltb-false}
+use lib.Dec.{eqb, ltb}
+use lib.IntN.{ℤ, pos}
+use lib.ListN.{length, getD, set, drop}
+use lib.Seq.{sets, length-sets, drop-cons, drop-set-lt, getD-set-same, getD-set-other}
+use Rattle.grid_track_counts.specs.declared.TrackCounts.{TrackCounts}
+use Rattle.walk.specs.declared.Placement.{Placement}
+use Rattle.walk.specs.declared.Placement.the-variants.{Fixed, Spanned}
+use Rattle.walk.specs.Axis.{other, Both, on}
+use Rattle.walk.specs.Search.{Place}
+use Rattle.walk.specs.Walk.{Item, Queued, Tile, Board, Setting, Choice, Run, going, tileOf, laidOn, put, choose1, step1, choose2, step2, chooseLine, choosePair, step4, andThen, each, begin4, last4, walk, bit}
+use Rattle.walk.specs.Request.{numbers, answerOf, answersOf, upTo, queue}
+use Rattle.walk.specs.OnList.{written}
+use Rattle.walk.specs.Rules.{mine1, mine2, mine4}
+use Rattle.walk.proofs.Tests.{Every, nil, more, clash}
+use Rattle.walk.proofs.WalkLaws.{put-going, stay, went, each-keeps, Move, stays, lays, move1, move2, move4, anyone}
+
+-- ---- each item has its tile
+
+pub data Has (i : ℕ) : List Tile → Type 0 where
+  this : {t : Tile} {ts : List Tile} → t .index ≡ i → Has i (t ∷ ts)
+  that : {t : Tile} {ts : List Tile} → Has i ts → Has i (t ∷ ts)
+
+moved-has : (w : Setting) (i j : ℕ) (t b : Board) → Has i (t .tiles) → Move w j t b → Has i (b .tiles)
+unfolding laidOn
+moved-has w i j t b h (stays e) = rw (← e) h
+moved-has w i j t b h (lays x st m e) = rw (← e) (that h)
+
+laid-has : (w : Setting) (i : ℕ) (x : Choice) (t b : Board) → put w i x t ≡ going b → Has i (b .tiles)
+unfolding laidOn tileOf
+laid-has w i x t b e = rw (← (put-going w i x t b e)) (this refl)
+
+-- a step that lays each item of a class gives each its tile
+module _ (w : Setting) (f : ℕ → Placement → Placement → Board → Run) (C : Placement → Placement → Bool)
+    (move : (i : ℕ) (p s : Placement) (t b : Board) → f i p s t ≡ going b → Move w i t b)
+    (mine : (i : ℕ) (p s : Placement) (t b : Board) → C p s ≡ true → f i p s t ≡ going b → Has i (b .tiles)) where
+  each-carries : (i : ℕ) (qs : List Queued) (t b : Board) → Has i (t .tiles) → each w f qs t ≡ going b → Has i (b .tiles)
+  each-carries i qs t b h e = each-keeps w f (λ _ _ _. Unit {0}) (λ _ x. Has i (x .tiles)) (λ _ j p s x y _ k g. moved-has w i j x y k (move j p s x y g)) qs 0 t b (anyone qs) h e
+
+  each-has : (qs : List Queued) (t b : Board) → each w f qs t ≡ going b → Every (λ (q : Queued). C (on (w .axis) (q .item)) (on (other (w .axis)) (q .item)) ≡ true → Has (q .index) (b .tiles)) qs
+  unfolding each
+  each-has [] t b e = nil
+  each-has (q ∷ qs) t b e =
+      let v = went (f (q .index) (on (w .axis) (q .item)) (on (other (w .axis)) (q .item)) t) (λ u. each w f qs u) b e in
+      more (λ c. each-carries (q .index) qs (v .middle) b (mine (q .index) (on (w .axis) (q .item)) (on (other (w .axis)) (q .item)) t (v .middle) c (v .first)) (v .second))
+      (each-has qs (v .middle) b (v .second))
+
+module _ (w : Setting) where
+  has1 : (i : ℕ) (p s : Placement) (t b : Board) → mine1 p s ≡ true → step1 w i p s t ≡ going b → Has i (b .tiles)
+  unfolding step1
+  has1 i (Fixed p) (Fixed s) t b c e = laid-has w i (choose1 w p s t) t b e
+  has1 i (Fixed p) (Spanned m) t b c e = clash c refl
+  has1 i (Spanned n) (Fixed s) t b c e = clash c refl
+  has1 i (Spanned n) (Spanned m) t b c e = clash c refl
+
+  has2 : (i : ℕ) (p s : Placement) (t b : Board) → mine2 p s ≡ true → step2 w i p s t ≡ going b → Has i (b .tiles)
+  unfolding step2
+  has2 i (Fixed p) (Fixed s) t b c e = clash c refl
+  has2 i (Fixed p) (Spanned m) t b c e = clash c refl
+  has2 i (Spanned n) (Fixed s) t b c e = laid-has w i (choose2 w n s t) t b e
+  has2 i (Spanned n) (Spanned m) t b c e = clash c refl
+
+  has4 : (once : Place) (i : ℕ) (p s : Placement) (t b : Board) → mine4 p s ≡ true → step4 w once i p s t ≡ going b → Has i (b .tiles)
+  unfolding step4
+  has4 once i (Fixed p) (Fixed s) t b c e = clash c refl
+  has4 once i (Fixed p) (Spanned m) t b c e = laid-has w i (chooseLine w once p m t) t b e
+  has4 once i (Spanned n) (Fixed s) t b c e = clash c refl
+  has4 once i (Spanned n) (Spanned m) t b c e = laid-has w i (choosePair w once n m t) t b e
+
+  one-of : {H : Type 0} (p s : Placement) → (mine1 p s ≡ true → H) → (mine2 p s ≡ true → H) → (mine4 p s ≡ true → H) → H
+  one-of (Fixed p) (Fixed s) f g h = f refl
+  one-of (Fixed p) (Spanned m) f g h = h refl
+  one-of (Spanned n) (Fixed s) f g h = g refl
+  one-of (Spanned n) (Spanned m) f g h = h refl
+
+  three : {A B C D : Queued → Type 0} {qs : List Queued} → ((q : Queued) → A q → B q → C q → D q) → Every A qs → Every B qs → Every C qs → Every D qs
+  three f nil nil nil = nil
+  three f (more {x = q} a az) (more b bz) (more c cz) = more (f q a b c) (three f az bz cz)
+
+  -- EVERY ITEM IS PLACED
+  pub walk-has : (growth : Both TrackCounts → Both TrackCounts) (qs : List Queued) (t b : Board) → walk w growth qs t ≡ going b → Every (λ (q : Queued). Has (q .index) (b .tiles)) qs
+  unfolding walk last4 begin4
+  walk-has growth qs t b e =
+      let v = went (each w (step1 w) qs t) (λ b₁. andThen (each w (step2 w) qs b₁) (λ b₂. last4 w qs (begin4 w growth b₂))) b e in
+      let u = went (each w (step2 w) qs (v .middle)) (λ b₂. last4 w qs (begin4 w growth b₂)) b (v .second) in
+      let c = begin4 w growth (u .middle) in
+      let h₁ = each-has w (step1 w) mine1 (λ i p s x y f. move1 w i p s x y f) (λ i p s x y k f. has1 i p s x y k f) qs t (v .middle) (v .first) in
+      let h₂ = each-has w (step2 w) mine2 (λ i p s x y f. move2 w i p s x y f) (λ i p s x y k f. has2 i p s x y k f) qs (v .middle) (u .middle) (u .first) in
+      let h₄ = each-has w (step4 w (c .cursor)) mine4 (λ i p s x y f. move4 w (c .cursor) i p s x y f) (λ i p s x y k f. has4 (c .cursor) i p s x y k f) qs c b (u .second) in
+      three (λ q f g h. one-of (on (w .axis) (q .item)) (on (other (w .axis)) (q .item)) (λ k. end4 (u .middle) (u .second) (q .index) (mid2 (v .middle) (u .middle) (u .first) (q .index) (f k))) (λ k. end4 (u .middle) (u .second) (q .index) (g k)) h) h₁ h₂ h₄
+    where
+      mid2 : (x y : Board) → each w (step2 w) qs x ≡ going y → (i : ℕ) → Has i (x .tiles) → Has i (y .tiles)
+      mid2 x y f i h = each-carries w (step2 w) mine2 (λ i p s x y f. move2 w i p s x y f) (λ i p s x y k f. has2 i p s x y k f) i qs x y h f
+
+      end4 : (x : Board) → last4 w qs (begin4 w growth x) ≡ going b → (i : ℕ) → Has i (x .tiles) → Has i (b .tiles)
+      end4 x f i h =
+          let c = begin4 w growth x in
+          each-carries w (step4 w (c .cursor)) mine4 (λ i p s x y f. move4 w (c .cursor) i p s x y f) (λ i p s x y k f. has4 (c .cursor) i p s x y k f) i qs c b h f
+
+-- ---- and one tile only: a run lays as many tiles as it has items
+
+-- 1 where the step takes the item up
+abbrev one : (Placement → Placement → Bool) → Placement → Placement → ℕ
+one c p s = bit 1 (c p s)
+
+one-step : (p s : Placement) → one mine1 p s + one mine2 p s + one mine4 p s ≡ 1
+one-step (Fixed p) (Fixed s) = refl
+one-step (Fixed p) (Spanned m) = refl
+one-step (Spanned n) (Fixed s) = refl
+one-step (Spanned n) (Spanned m) = refl
+
+laid-one : (w : Setting) (i : ℕ) (x : Choice) (t b : Board) → put w i x t ≡ going b → length (b .tiles) ≡ 1 + length (t .tiles)
+unfolding laidOn
+laid-one w i x t b e = rw (← (put-going w i x t b e)) (omega arith)
+
+none-laid : (t b : Board) → going t ≡ going b → length (b .tiles) ≡ 0 + length (t .tiles)
+none-laid t b e = rw (← (stay e)) (omega arith)
+
+module _ (w : Setting) where
+  total : (Placement → Placement → Bool) → List Queued → ℕ
+  total c [] = 0
+  total c (q ∷ qs) = one c (on (w .axis) (q .item)) (on (other (w .axis)) (q .item)) + total c qs
+
+  total-all : (qs : List Queued) → total mine1 qs + total mine2 qs + total mine4 qs ≡ length qs
+  unfolding total
+  total-all [] = refl
+  total-all (q ∷ qs) = omega (arith, total-all qs, one-step (on (w .axis) (q .item)) (on (other (w .axis)) (q .item)))
+
+  each-count : (f : ℕ → Placement → Placement → Board → Run) (c : Placement → Placement → Bool) → ((i : ℕ) (p s : Placement) (t b : Board) → f i p s t ≡ going b → length (b .tiles) ≡ one c p s + length (t .tiles))
+      → (qs : List Queued) (t b : Board) → each w f qs t ≡ going b → length (b .tiles) ≡ total c qs + length (t .tiles)
+  unfolding each total
+  each-count f c ones [] t b e = none-laid t b e
+  each-count f c ones (q ∷ qs) t b e =
+      let v = went (f (q .index) (on (w .axis) (q .item)) (on (other (w .axis)) (q .item)) t) (λ u. each w f qs u) b e in
+      let h = ones (q .index) (on (w .axis) (q .item)) (on (other (w .axis)) (q .item)) t (v .middle) (v .first) in
+      let k = each-count f c ones qs (v .middle) b (v .second) in
+      omega arith
+
+  lays1 : (i : ℕ) (p s : Placement) (t b : Board) → step1 w i p s t ≡ going b → length (b .tiles) ≡ one mine1 p s + length (t .tiles)
+  unfolding step1
+  lays1 i (Fixed p) (Fixed s) t b e = laid-one w i (choose1 w p s t) t b e
+  lays1 i (Fixed p) (Spanned m) t b e = none-laid t b e
+  lays1 i (Spanned n) (Fixed s) t b e = none-laid t b e
+  lays1 i (Spanned n) (Spanned m) t b e = none-laid t b e
+
+  lays2 : (i : ℕ) (p s : Placement) (t b : Board) → step2 w i p s t ≡ going b → length (b .tiles) ≡ one mine2 p s + length (t .tiles)
+  unfolding step2
+  lays2 i (Fixed p) (Fixed s) t b e = none-laid t b e
+  lays2 i (Fixed p) (Spanned m) t b e = none-laid t b e
+  lays2 i (Spanned n) (Fixed s) t b e = laid-one w i (choose2 w n s t) t b e
+  lays2 i (Spanned n) (Spanned m) t b e = none-laid t b e
+
+  lays4 : (once : Place) (i : ℕ) (p s : Placement) (t b : Board) → step4 w once i p s t ≡ going b → length (b .tiles) ≡ one mine4 p s + length (t .tiles)
+  unfolding step4
+  lays4 once i (Fixed p) (Fixed s) t b e = none-laid t b e
+  lays4 once i (Fixed p) (Spanned m) t b e = laid-one w i (chooseLine w once p m t) t b e
+  lays4 once i (Spanned n) (Fixed s) t b e = none-laid t b e
+  lays4 once i (Spanned n) (Spanned m) t b e = laid-one w i (choosePair w once n m t) t b e
+
+  pub walk-count : (growth : Both TrackCounts → Both TrackCounts) (qs : List Queued) (t b : Board) → walk w growth qs t ≡ going b → length (b .tiles) ≡ length qs + length (t .tiles)
+  unfolding walk last4 begin4
+  walk-count growth qs t b e =
+      let v = went (each w (step1 w) qs t) (λ b₁. andThen (each w (step2 w) qs b₁) (λ b₂. last4 w qs (begin4 w growth b₂))) b e in
+      let u = went (each w (step2 w) qs (v .middle)) (λ b₂. last4 w qs (begin4 w growth b₂)) b (v .second) in
+      let c = begin4 w growth (u .middle) in
+      let n₁ = each-count (step1 w) mine1 lays1 qs t (v .middle) (v .first) in
+      let n₂ = each-count (step2 w) mine2 lays2 qs (v .middle) (u .middle) (u .first) in
+      let n₄ = each-count (step4 w (c .cursor)) mine4 (lays4 (c .cursor)) qs c b (u .second) in
+      omega (arith, total-all qs)
+
+-- ---- the answers, written item by item
+
+-- one item more writes its five numbers
+pub written-laid : (i : ℕ) (h : Choice) (t : Board) (old : List ℤ) → written (laidOn i h t .tiles) old ≡ sets (written (t .tiles) old) (5 * i) (numbers (tileOf i h))
+unfolding laidOn tileOf written
+written-laid i h t old = refl
+
+pub written-length : (ts : List Tile) (old : List ℤ) → length (written ts old) ≡ length old
+unfolding written
+written-length [] old = refl
+written-length (t ∷ ts) old = length-sets (written ts old) (5 * t .index) (numbers t) ∙ written-length ts old
+
+o : ℤ
+o = pos 0
+
+-- five numbers from i on
+fiveAt : List ℤ → ℕ → List ℤ
+fiveAt l i = getD l i o ∷ getD l (suc i) o ∷ getD l (suc (suc i)) o ∷ getD l (suc (suc (suc i))) o ∷ getD l (suc (suc (suc (suc i)))) o ∷ []
+
+below : (l : List ℤ) (i : ℕ) (vs : List ℤ) (k : ℕ) → k < i → getD (sets l i vs) k o ≡ getD l k o
+below l i [] k h = refl
+below l i (v ∷ vs) k h = below (set l i v) (suc i) vs k (omega arith) ∙ getD-set-other l i k v o (omega arith)
+
+above : (l : List ℤ) (i : ℕ) (vs : List ℤ) (k : ℕ) → i + length vs ≤ k → getD (sets l i vs) k o ≡ getD l k o
+above l i [] k h = refl
+above l i (v ∷ vs) k h = above (set l i v) (suc i) vs k (omega arith) ∙ getD-set-other l i k v o (omega arith)
+
+inside : (l : List ℤ) (i : ℕ) (vs : List ℤ) (j k : ℕ) → k ≡ i + j → j < length vs → i + length vs ≤ length l → getD (sets l i vs) k o ≡ getD vs j o
+inside l i [] j k e h r = absurd (let z : ⊥ = omega arith in z)
+inside l i (v ∷ vs) zero k e h r = below (set l i v) (suc i) vs k (omega arith) ∙ (let f : k ≡ i = omega arith in rw f (getD-set-same l i v o (omega arith)))
+inside l i (v ∷ vs) (suc j) k e h r = inside (set l i v) (suc i) vs j k (omega arith) (omega arith) (simp lib.ListN.length-set (omega arith))
+
+five-same : (l : List ℤ) (i : ℕ) (t : Tile) → i + 5 ≤ length l → fiveAt (sets l i (numbers t)) i ≡ numbers t
+unfolding fiveAt numbers
+five-same l i t h =
+    rw (
+      inside l i (numbers t) 0 i (omega arith) (omega arith) h,
+      inside l i (numbers t) 1 (suc i) (omega arith) (omega arith) h,
+      inside l i (numbers t) 2 (suc (suc i)) (omega arith) (omega arith) h,
+      inside l i (numbers t) 3 (suc (suc (suc i))) (omega arith) (omega arith) h,
+      inside l i (numbers t) 4 (suc (suc (suc (suc i)))) (omega arith) (omega arith) h,
+    )
+
+getD-other : (l : List ℤ) (i j : ℕ) (t : Tile) (k : ℕ) → i ≢ j → 5 * j ≤ k → k < 5 * j + 5 → getD (sets l (5 * i) (numbers t)) k o ≡ getD l k o
+unfolding numbers
+getD-other l i j t k n a b = go (ltb i j) refl
+  where
+    go : (x : Bool) → ltb i j ≡ x → getD (sets l (5 * i) (numbers t)) k o ≡ getD l k o
+    go true e = let h = borrow.Author.Tests.ltb-true i j e in above l (5 * i) (numbers t) k (omega arith)
+    go false e = let h = ltb-false i j e in below l (5 * i) (numbers t) k (omega arith)
+
+five-other : (l : List ℤ) (i j : ℕ) (t : Tile) → i ≢ j → fiveAt (sets l (5 * i) (numbers t)) (5 * j) ≡ fiveAt l (5 * j)
+unfolding fiveAt
+five-other l i j t n =
+    rw (
+      getD-other l i j t (5 * j) n (omega arith) (omega arith),
+      getD-other l i j t (suc (5 * j)) n (omega arith) (omega arith),
+      getD-other l i j t (suc (suc (5 * j))) n (omega arith) (omega arith),
+      getD-other l i j t (suc (suc (suc (5 * j)))) n (omega arith) (omega arith),
+      getD-other l i j t (suc (suc (suc (suc (5 * j))))) n (omega arith) (omega arith),
+    )
+
+-- an item that has its tile has its answer
+five-written : (i : ℕ) {ts : List Tile} (old : List ℤ) → Has i ts → 5 * i + 5 ≤ length old → fiveAt (written ts old) (5 * i) ≡ answerOf i ts
+unfolding written answerOf numbers
+five-written i {ts} old (this {t} {ts = us} e) h =
+    rw (e, borrow.Author.Tests.eq-eqb i i refl) (five-same (written us old) (5 * i) t (rw (written-length us old) h))
+five-written i {ts} old (that {t} {ts = us} k) h = go (five-written i old k h) (eqb (t .index) i) refl
+  where
+    go : fiveAt (written us old) (5 * i) ≡ answerOf i us → (x : Bool) → eqb (t .index) i ≡ x → fiveAt (sets (written us old) (5 * t .index) (numbers t)) (5 * i) ≡ cond x (numbers t) (answerOf i us)
+    go ih true e = rw (eqb-true (t .index) i e) (five-same (written us old) (5 * i) t (rw (written-length us old) h))
+    go ih false e = five-other (written us old) (t .index) i t (eqb-false (t .index) i e) ∙ ih
+
+cut : (l : List ℤ) (i : ℕ) → i + 5 ≤ length l → drop i l ≡ fiveAt l i ++ drop (suc (suc (suc (suc (suc i))))) l
+unfolding fiveAt
+cut l i h =
+    rw (
+      drop-cons l i o (omega arith),
+      drop-cons l (suc i) o (omega arith),
+      drop-cons l (suc (suc i)) o (omega arith),
+      drop-cons l (suc (suc (suc i))) o (omega arith),
+      drop-cons l (suc (suc (suc (suc i)))) o (omega arith),
+    )
+
+answers-cut : (n k : ℕ) (ts : List Tile) (old : List ℤ) → ((i : ℕ) → k ≤ i → i < k + n → Has i ts) → 5 * (k + n) ≤ length old
+    → drop (5 * k) (written ts old) ≡ answersOf (upTo n k) ts ++ drop (5 * (k + n)) (written ts old)
+unfolding upTo answersOf
+answers-cut zero k ts old h r = let e : k + 0 ≡ k = omega arith in rw e
+answers-cut (suc n) k ts old h r =
+    let l = written ts old in
+    let len : 5 * k + 5 ≤ length l = rw (written-length ts old) (omega arith) in
+    let e : suc (suc (suc (suc (suc (5 * k))))) ≡ 5 * suc k = omega arith in
+    let f : 5 * (suc k + n) ≡ 5 * (k + suc n) = omega arith in
+    let ih = rw f at (answers-cut n (suc k) ts old (λ i a b. h i (omega arith) (omega arith)) (omega arith)) in
+    cut l (5 * k) len ∙ rw (e, five-written k old (h k (omega arith) (omega arith)) (omega arith), ih) (sym (append-assoc (answerOf k ts) (answersOf (upTo n (suc k)) ts) (drop (5 * (k + suc n)) l)))
+
+sets-drop : (m : ℕ) (l : List ℤ) (i : ℕ) (vs : List ℤ) → i + length vs ≤ m → drop m (sets l i vs) ≡ drop m l
+sets-drop m l i [] h = refl
+sets-drop m l i (v ∷ vs) h = sets-drop m (set l i v) (suc i) vs (omega arith) ∙ drop-set-lt m l i v (omega arith)
+
+pub written-drop : (n : ℕ) {ts : List Tile} (old : List ℤ) → Every (λ (t : Tile). t .index < n) ts → drop (5 * n) (written ts old) ≡ drop (5 * n) old
+unfolding written numbers
+written-drop n old nil = refl
+written-drop n old (more {x = t} {xs = ts} h hs) = sets-drop (5 * n) (written ts old) (5 * t .index) (numbers t) (omega arith) ∙ written-drop n old hs
+
+-- WHAT IS WRITTEN IN THE END: the answers of all items, and behind them what was there
+pub written-is : (n : ℕ) (ts : List Tile) (old : List ℤ) → ((i : ℕ) → i < n → Has i ts) → Every (λ (t : Tile). t .index < n) ts → 5 * n ≤ length old
+    → written ts old ≡ answersOf (upTo n 0) ts ++ drop (5 * n) old
+written-is n ts old h g r =
+    let e : 0 + n ≡ n = omega arith in
+    let c = rw e at (answers-cut n 0 ts old (λ i a b. h i (omega arith)) (omega arith)) in
+    c ∙ rw (written-drop n old g)
+
+-- ---- the queue in document order
+
+pub queue-all : (n k : ℕ) (xs : List Item) (H : ℕ → Type 0) → Every (λ (q : Queued). H (q .index)) (queue (upTo n k) xs) → (i : ℕ) → k ≤ i → i < k + n → H i
+unfolding queue upTo
+queue-all zero k xs H g i a b = absurd (let z : ⊥ = omega arith in z)
+queue-all (suc n) k xs H (more g gs) i a b = go (queue-all n (suc k) xs H gs) (eqb k i) refl
+  where
+    go : ((i : ℕ) → suc k ≤ i → i < suc k + n → H i) → (x : Bool) → eqb k i ≡ x → H i
+    go rec true e = rw (← (eqb-true k i e)) g
+    go rec false e = let d = eqb-false k i e in rec i (omega arith) (omega arith)
+
+pub queue-below : (n k m : ℕ) (xs : List Item) → k + n ≤ m → Every (λ (q : Queued). q .index < m) (queue (upTo n k) xs)
+unfolding queue upTo
+queue-below zero k m xs h = nil
+queue-below (suc n) k m xs h = let e : k < m = omega arith in more e (queue-below n (suc k) m xs (omega arith))
+
+pub queue-length : (n k : ℕ) (xs : List Item) → length (queue (upTo n k) xs) ≡ n
+unfolding queue upTo
+queue-length zero k xs = refl
+queue-length (suc n) k xs = ap suc (queue-length n (suc k) xs)
