@@ -2,13 +2,10 @@
 use mathlib.Core.Path.{_≡_}
 use mathlib.Core.Bool.{Bool, true, false, not, _&&_, _||_}
 use mathlib.Core.List.{List}
-use Prim.Native.Nat.{ℕ, zero, suc, _+_, _-_, _*_, _<_, _≤_, min}
+use Prim.Native.Nat.{ℕ, zero, suc, _+_, _-_, _*_, _<_, _≤_}
 use lib.ListN.{length, getD, take, drop}
 use lib.IntN.{ℤ, pos, negsuc, _+ℤ_}
 use lib.Signed.{ltZ, _≤ℤ_, _<ℤ_}
-use mir.Syntax.{w16}
-use mir.Val.{SFits}
-use Rattle.signed.specs.Parts.{up, dn}
 use Rattle.intervals.specs.Records.{Rec, same}
 use Rattle.cell_occupancy.specs.Calls.{collisionJump}
 use Rattle.cell_occupancy.specs.declared.jumps.Jump.the-variants as J
@@ -71,11 +68,6 @@ pub record Split (l : List ℤ) (n : ℕ) (x : ℤ) (r : ℕ) : Type 0 where
   pub below : (k : ℕ) → k < r → T l k <ℤ x
   pub above : (k : ℕ) → r ≤ k → k < n → x ≤ℤ T l k
 
--- r is z, or the nearest line of the limited grid: r + 10000 is z + 10000, not below 0 and not above 20000
-pub record Clip (z r : ℤ) : Type 0 where
-  pub fits : SFits w16 r
-  pub is : up r + 10000 ≡ dn r + min (up z + 10000 - dn z) 20000
-
 -- r is the part of l that holds the records of track t among the first n, as a part of the list
 pub record Part (l : List ℤ) (n : ℕ) (t : ℤ) (r : List ℤ) : Type 0 where
   pub from : ℕ
@@ -84,6 +76,13 @@ pub record Part (l : List ℤ) (n : ℕ) (t : ℤ) (r : List ℤ) : Type 0 where
   pub begins : Split l n t from
   pub ends : Split l n (t +ℤ pos 1) to
   pub cut : r ≡ take (4 * to - 4 * from) (drop (4 * from) l)
+
+-- r is the part of l that holds the records of the last track among those from `from` up to `to`
+pub record Tail (l : List ℤ) (from to : ℕ) (r : List ℤ) : Type 0 where
+  pub at : ℕ
+  pub low : from ≤ at
+  pub begins : Split l to (T l (to - 1)) at
+  pub cut : r ≡ take (4 * to - 4 * at) (drop (4 * at) l)
 
 -- records one behind the other on one track: each ends at or before the start of the next
 pub record Ascends (l : List ℤ) (n : ℕ) : Type 0 where

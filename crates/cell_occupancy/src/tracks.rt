@@ -1,13 +1,13 @@
 // The records of a track, as a part of the list.
 ghost use mathlib.Core.Path.{_≡_};
-ghost use Prim.Native.Nat.{ℕ, _+_, _*_, _≤_, _<_};
+ghost use Prim.Native.Nat.{ℕ, _+_, _-_, _*_, _≤_, _<_};
 ghost use lib.ListN.{length};
 ghost use lib.IntN.{ℤ};
 ghost use lib.Signed.{_<ℤ_};
 ghost use Rattle.intervals.specs.OverInt.{encode};
 ghost use Rattle.intervals.specs.Lists.{Holds, recs, onTrack};
 ghost use Rattle.cell_occupancy.specs.Calls.{trackOf, recordsOfTrack};
-ghost use Rattle.cell_occupancy.specs.Inner.{T, Front, Split, Part};
+ghost use Rattle.cell_occupancy.specs.Inner.{T, Front, Split, Part, Tail};
 use crate::rules::Used;
 use crate::rules::kept;
 use crate::rules::number;
@@ -31,6 +31,18 @@ pub fn lower(list: &[i16], from: usize, used: usize, x: i32) -> usize
         }
     }
     lo
+}
+
+// The records of the last track among those from `from` up to `to`.
+pub fn last_track<'a>(list: &'a [i16], from: usize, to: usize) -> &'a [i16]
+    requires { ⌜ Front (now list) to ⌝ }
+    requires { ⌜ from < to ⌝ }
+    requires { ⌜ ((k : ℕ) → k < from → T (now list) k <ℤ T (now list) (to - 1)) ⌝ }
+    ensures { λ r. ⌜ Tail (now (list .entry)) from to (now r) ⌝ }
+{
+    let track = number(list, 4 * (to - 1));
+    let a = lower(list, from, to, track as i32);
+    &list[4 * a..4 * to]
 }
 
 // The records of one track.
