@@ -293,3 +293,6 @@ holds-front h = holds-both h .front
 
 pub holds-room : {l : List ℤ} {n : ℕ} → Holds l n → 4 * n ≤ length l
 holds-room h = holds-both h .front .room
+
+pub holds-decode : {l : List ℤ} {n : ℕ} → Holds l n → decode l ≡ recs n l
+holds-decode h = both-flat (holds-both h) .0

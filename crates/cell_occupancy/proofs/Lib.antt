@@ -1,5 +1,6 @@
 pub mod ByIndex
 pub mod Sorted
+pub mod Standing
 pub mod Over
 pub mod LastOverlap
 pub mod Crossed
