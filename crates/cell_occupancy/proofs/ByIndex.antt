@@ -1,31 +1,29 @@
--- A flat list by the indices of its records, as code reads it, and the list rules there.
+-- startNo flat list by the indices of its records, as code reads it, and the list rules there.
 use mathlib.Core.Path.{_≡_, refl, sym, ap, _∙_, subst}
-use mathlib.Core.Bool.{Bool, true, false, not, cond, _&&_, _||_}
+use mathlib.Core.Bool.{Bool, true, false, not, _&&_, _||_}
 use mathlib.Core.List.{List, [], _∷_, _++_}
-use mathlib.Core.Logic.{_≢_, _↔_}
+use mathlib.Core.Logic.{_≢_}
 use Prim.Native.Nat.{ℕ, zero, suc, _+_, _-_, _*_, _<_, _≤_}
 use native.Mathlib.Omega.{arith}
 use lib.Dec.{eqb, ltb}
-use lib.ListN.{length, getD, take, drop, replicate, length-append, length-replicate}
+use lib.ListN.{length, getD, replicate, length-append, length-replicate}
 use lib.IntN.{ℤ, pos, negsuc, natAbs}
-use lib.Signed.{ltZ, leZ, nonNeg, _≤ℤ_, _<ℤ_}
+use lib.Signed.{ltZ, leZ, nonNeg, _≤ℤ_}
 use borrow.Author.Tests.{eqb-true, eqb-false, eq-eqb, ltb-true, ltb-false}
 use native.Mathlib.Decide.{decLt, ℕ-discrete}
 use borrow.Author.Count.{below-more}
-use Rattle.signed.specs.Parts.{up, dn}
-use Rattle.signed.proofs.Laws.{signed, apart, by-test, g-le-true, g-lt-true}
+use Rattle.signed.proofs.Laws.{signed, by-test, g-le-true, g-lt-true}
 use Rattle.intervals.proofs.Line.{Test, yea, nay, test, no-both}
 use Rattle.intervals.specs.Records.{Rec, rec, same}
 use Rattle.intervals.proofs.Grid.{and-l, and-r, and-i, and₃}
 use Rattle.intervals.specs.OverInt.{encode, ok, keeps, decode, flat, isFlat, digits, isZero}
 use Rattle.intervals.proofs.Flat.{parts, length-encode}
 use Rattle.intervals.specs.Flat.{rows}
-use Rattle.intervals.proofs.Index.{Ruled, ruled-keeps, keeps-ruled, flatRows-step, Counted, counted}
+use Rattle.intervals.proofs.Index.{ruled-keeps, keeps-ruled, flatRows-step, counted}
 use Rattle.intervals.proofs.OverInt.{digit-laws}
 use Rattle.intervals.specs.Lists.{inGrid, allIn, rules, recs, Holds}
 use Rattle.cell_occupancy.specs.Calls.{keptOf}
-use Rattle.cell_occupancy.specs.Inner.{T, A, B, S, Good, GoodAt, mayFollow, followAt, Says, Goes, Front, Zeros}
-use Rattle.cell_occupancy.specs.declared.rules.Used.{Used}
+use Rattle.cell_occupancy.specs.Inner.{trackNo, startNo, endNo, stateNo, Good, GoodAt, mayFollow, followAt, Says, Goes, Front, Zeros}
 use Rattle.cell_occupancy.specs.declared.rules.Used.the-variants.{Records, Broken}
 
 -- ---- one record
@@ -78,7 +76,7 @@ length-rows zero t a b s = refl
 length-rows (suc n) t a b s = ap suc (length-rows n (λ i. t (suc i)) (λ i. a (suc i)) (λ i. b (suc i)) (λ i. s (suc i)))
 
 pub length-recs : (n : ℕ) (l : List ℤ) → length (recs n l) ≡ n
-length-recs n l = length-rows n (T l) (A l) (B l) (λ i. natAbs (S l i))
+length-recs n l = length-rows n (trackNo l) (startNo l) (endNo l) (λ i. natAbs (stateNo l i))
 
 pub recs-enc : (rs : List (Rec ℤ)) (z : List ℤ) → recs (length rs) (encode rs ++ z) ≡ rs
 recs-enc [] z = refl
@@ -113,21 +111,21 @@ same-state (negsuc s) v h k = absurd (omega signed)
 pub front-rules : {l : List ℤ} {n : ℕ} → Front l n → rules (recs n l) ≡ true
 front-rules {l} {n} f =
     and-i
-    (ruled-keeps ltZ ok n (T l) (A l) (B l) (λ i. natAbs (S l i)) (record {
-      each = λ i h. let g = f .each i h .good in g-lt-true (A l i) (B l i) (omega signed);
-      okay = λ i h. ok-good (S l i) (f .each i h .good .s-lo) (f .each i h .good .s-hi);
-      pair = λ i h. rw (← (same-state (S l i) (S l (suc i)) (f .each i (omega arith) .good .s-lo) (f .each (suc i) h .good .s-lo))) (f .each (suc i) h .next i refl);
+    (ruled-keeps ltZ ok n (trackNo l) (startNo l) (endNo l) (λ i. natAbs (stateNo l i)) (record {
+      each = λ i h. let g = f .each i h .good in g-lt-true (startNo l i) (endNo l i) (omega signed);
+      okay = λ i h. ok-good (stateNo l i) (f .each i h .good .s-lo) (f .each i h .good .s-hi);
+      pair = λ i h. rw (← (same-state (stateNo l i) (stateNo l (suc i)) (f .each i (omega arith) .good .s-lo) (f .each (suc i) h .good .s-lo))) (f .each (suc i) h .next i refl);
     }))
-    (all-in n (T l) (A l) (B l) (λ i. natAbs (S l i)) (λ i h. in-good (natAbs (S l i)) (f .each i h .good)))
+    (all-in n (trackNo l) (startNo l) (endNo l) (λ i. natAbs (stateNo l i)) (λ i h. in-good (natAbs (stateNo l i)) (f .each i h .good)))
 
-pub rules-front : (l : List ℤ) (n : ℕ) → 4 * n ≤ length l → rules (recs n l) ≡ true → ((i : ℕ) → i < n → nonNeg (S l i) ≡ true) → Front l n
+pub rules-front : (l : List ℤ) (n : ℕ) → 4 * n ≤ length l → rules (recs n l) ≡ true → ((i : ℕ) → i < n → nonNeg (stateNo l i) ≡ true) → Front l n
 rules-front l n m h p =
     let k = keeps (recs n l) in
-    let r = keeps-ruled ltZ ok n (T l) (A l) (B l) (λ i. natAbs (S l i)) (and-l k (allIn (recs n l)) h) in
-    let g = in-all n (T l) (A l) (B l) (λ i. natAbs (S l i)) (and-r k (allIn (recs n l)) h) in
-    let o : (i : ℕ) → i < n → Good (T l i) (A l i) (B l i) (S l i) = λ i q.
-    let x = in-is (T l i) (A l i) (B l i) (natAbs (S l i)) (g i q) in
-    let y = good-ok (S l i) (p i q) (r .okay i q) in
+    let r = keeps-ruled ltZ ok n (trackNo l) (startNo l) (endNo l) (λ i. natAbs (stateNo l i)) (and-l k (allIn (recs n l)) h) in
+    let g = in-all n (trackNo l) (startNo l) (endNo l) (λ i. natAbs (stateNo l i)) (and-r k (allIn (recs n l)) h) in
+    let o : (i : ℕ) → i < n → Good (trackNo l i) (startNo l i) (endNo l i) (stateNo l i) = λ i q.
+    let x = in-is (trackNo l i) (startNo l i) (endNo l i) (natAbs (stateNo l i)) (g i q) in
+    let y = good-ok (stateNo l i) (p i q) (r .okay i q) in
     let z = r .each i q in
     record { t-lo = x .t-lo; t-hi = x .t-hi; lo = x .lo; order = omega signed; hi = x .hi; s-lo = y .0; s-hi = y .1 } in
     record {
@@ -135,15 +133,15 @@ rules-front l n m h p =
       each = λ i q. record {
         good = o i q;
         next = λ j e.
-            let w : mayFollow (T l j) (B l j) (S l j) (T l (suc j)) (A l (suc j)) (S l (suc j)) ≡ true =
-            rw (same-state (S l j) (S l (suc j)) (o j (omega arith) .s-lo) (o (suc j) (omega arith) .s-lo)) (r .pair j (omega arith)) in
-            subst (λ (m : ℕ). mayFollow (T l j) (B l j) (S l j) (T l m) (A l m) (S l m) ≡ true) e w;
+            let w : mayFollow (trackNo l j) (endNo l j) (stateNo l j) (trackNo l (suc j)) (startNo l (suc j)) (stateNo l (suc j)) ≡ true =
+            rw (same-state (stateNo l j) (stateNo l (suc j)) (o j (omega arith) .s-lo) (o (suc j) (omega arith) .s-lo)) (r .pair j (omega arith)) in
+            subst (λ (m : ℕ). mayFollow (trackNo l j) (endNo l j) (stateNo l j) (trackNo l m) (startNo l m) (stateNo l m) ≡ true) e w;
       };
     }
 
 -- ---- a list that holds n records
 
-enc-state : (rs : List (Rec ℤ)) (z : List ℤ) (i : ℕ) → i < length rs → nonNeg (S (encode rs ++ z) i) ≡ true
+enc-state : (rs : List (Rec ℤ)) (z : List ℤ) (i : ℕ) → i < length rs → nonNeg (stateNo (encode rs ++ z) i) ≡ true
 enc-state [] z i h = absurd (omega arith)
 enc-state (rec t a b s ∷ rs) z zero h = refl
 enc-state (rec t a b s ∷ rs) z (suc i) h =
@@ -187,8 +185,8 @@ zero-is z e = rw e
 both-flat : {l : List ℤ} {n : ℕ} → Both l n → (decode l ≡ recs n l) × (isFlat l ≡ true)
 both-flat {l} {n} b = counted digits n l (record {
   room = b .front .room;
-  used = λ i h. nz-good (S l i) (b .front .each i h .good .s-lo);
-  state = λ i h. nn-good (S l i) (b .front .each i h .good .s-lo);
+  used = λ i h. nz-good (stateNo l i) (b .front .each i h .good .s-lo);
+  state = λ i h. nn-good (stateNo l i) (b .front .each i h .good .s-lo);
   free = λ j h k. zero-is (getD l j (pos 0)) (b .zeros j h k);
 })
 

@@ -1,25 +1,25 @@
 -- The two jumps, over the tracks of a span.
 use mathlib.Core.Path.{_≡_, refl, sym, ap, _∙_, subst}
-use mathlib.Core.Bool.{Bool, true, false, cond}
-use mathlib.Core.List.{List, [], _∷_, _++_, append-nil}
+use mathlib.Core.Bool.{true, false}
+use mathlib.Core.List.{List, [], append-nil}
 use Prim.Native.Nat.{ℕ, zero, suc, _+_, _-_, _*_, _/_, _<_, _≤_}
 use native.Mathlib.Omega.{arith}
 use native.Mathlib.Decide.{decLt}
 use lib.ListN.{length, drop, length-drop}
 use lib.Seq.{length-take-le}
-use lib.IntN.{ℤ, pos, negsuc, natAbs, _+ℤ_}
+use lib.IntN.{ℤ, pos, natAbs, _+ℤ_}
 use lib.Signed.{ltZ, _≤ℤ_, _<ℤ_}
-use Rattle.signed.specs.Parts.{up, dn, gap}
+use Rattle.signed.specs.Parts.{gap}
 use Rattle.signed.proofs.Laws.{signed, sum, g-lt-true, g-lt-false}
 use Rattle.intervals.proofs.Line.{Test, yea, nay, test}
-use Rattle.intervals.specs.Records.{Rec, rec, same}
+use Rattle.intervals.specs.Records.{Rec, same}
 use Rattle.intervals.specs.Flat.{rows}
 use Rattle.intervals.specs.OverInt.{encode, digits, span}
 use Rattle.intervals.proofs.Flat.{length-encode}
 use Rattle.intervals.proofs.OverInt.{digit-laws}
 use Rattle.intervals.specs.Lists.{recs, onTrack, Holds}
 use Rattle.cell_occupancy.specs.Calls.{extentOf, larger, over, collisionJump, pastTrack, orNext, occupiedJump}
-use Rattle.cell_occupancy.specs.Inner.{T, A, B, S, Front, Split, Part, Tail}
+use Rattle.cell_occupancy.specs.Inner.{trackNo, startNo, endNo, stateNo, Front, Split, Part, Tail}
 use Rattle.cell_occupancy.specs.declared.jumps.Extent.{Extent}
 use Rattle.cell_occupancy.specs.declared.jumps.Extent.the-variants as X
 use Rattle.cell_occupancy.specs.declared.jumps.Jump.{Jump}
@@ -48,14 +48,14 @@ jump-none rs t a b = ap (over (λ t j. larger (extentOf (onTrack t rs) a b) j)) 
 -- ---- tracks with no record
 
 -- those from u on below v, where the records before k are below u and the others are not below v
-no-record : {l : List ℤ} {n : ℕ} (u v : ℤ) (k : ℕ) → Split l n v k → ((i : ℕ) → i < k → T l i <ℤ u) → (t : ℤ) → u ≤ℤ t → t <ℤ v → onTrack t (recs n l) ≡ []
-no-record {l} {n} u v k s b t p q = none-on t n (T l) (A l) (B l) (λ i. natAbs (S l i)) (λ i h. go i h (decLt i k))
+no-record : {l : List ℤ} {n : ℕ} (u v : ℤ) (k : ℕ) → Split l n v k → ((i : ℕ) → i < k → trackNo l i <ℤ u) → (t : ℤ) → u ≤ℤ t → t <ℤ v → onTrack t (recs n l) ≡ []
+no-record {l} {n} u v k s b t p q = none-on t n (trackNo l) (startNo l) (endNo l) (λ i. natAbs (stateNo l i)) (λ i h. go i h (decLt i k))
   where
-    go : (i : ℕ) → i < n → Dec (i < k) → same ltZ t (T l i) ≡ false
-    go i h (yes x) = not-same t (T l i) (let y = b i x in omega signed)
-    go i h (no x) = not-same₂ t (T l i) (let y = s .above i (omega arith) h in omega signed)
+    go : (i : ℕ) → i < n → Dec (i < k) → same ltZ t (trackNo l i) ≡ false
+    go i h (yes x) = not-same t (trackNo l i) (let y = b i x in omega signed)
+    go i h (no x) = not-same₂ t (trackNo l i) (let y = s .above i (omega arith) h in omega signed)
 
-jump-skip : {l : List ℤ} {n : ℕ} (u v t₂ a b : ℤ) (k : ℕ) → u ≤ℤ v → Split l n v k → ((i : ℕ) → i < k → T l i <ℤ u) → collisionJump (recs n l) u t₂ a b ≡ collisionJump (recs n l) v t₂ a b
+jump-skip : {l : List ℤ} {n : ℕ} (u v t₂ a b : ℤ) (k : ℕ) → u ≤ℤ v → Split l n v k → ((i : ℕ) → i < k → trackNo l i <ℤ u) → collisionJump (recs n l) u t₂ a b ≡ collisionJump (recs n l) v t₂ a b
 jump-skip {l} {n} u v t₂ a b k h s f =
     skip-front (λ t j. larger (extentOf (onTrack t (recs n l)) a b) j) u v t₂ h (λ t p q j. ap (λ (r : List (Rec ℤ)). larger (extentOf r a b) j) (no-record u v k s f t p q))
 
@@ -74,16 +74,16 @@ start-far l n t₁ t₂ a b k h s = record { line = t₂; low = h; high = omega 
 
 module _ {l : List ℤ} {n : ℕ} {t₁ t₂ a b : ℤ} {k from : ℕ} {best : Jump} (f : Front l n) (v : SoFar l n t₁ t₂ a b k best) (s : Split l n t₁ from) (h : from < k) where
   -- the next track is one of those that are crossed
-  pub next-low : t₁ ≤ℤ T l (k - 1)
+  pub next-low : t₁ ≤ℤ trackNo l (k - 1)
   next-low = s .above (k - 1) (omega arith) (omega (arith, v .split .within))
 
-  pub next-before : (i : ℕ) → i < from → T l i <ℤ T l (k - 1)
+  pub next-before : (i : ℕ) → i < from → trackNo l i <ℤ trackNo l (k - 1)
   next-before i q = let x = s .below i q in let y = next-low in omega signed
 
   pub next-front : Front l k
   next-front = record { room = omega (arith, f .room, v .split .within); each = λ i q. f .each i (omega (arith, v .split .within)) }
 
-  pub next-part : {part : List ℤ} → Tail l from k part → Part l n (T l (k - 1)) part
+  pub next-part : {part : List ℤ} → Tail l from k part → Part l n (trackNo l (k - 1)) part
   next-part w = record {
     from = w .at;
     to = k;
@@ -97,7 +97,7 @@ module _ {l : List ℤ} {n : ℕ} {t₁ t₂ a b : ℤ} {k from : ℕ} {best : J
     cut = w .cut;
   }
     where
-      go : (i : ℕ) → w .at ≤ i → i < n → Dec (i < k) → T l (k - 1) ≤ℤ T l i
+      go : (i : ℕ) → w .at ≤ i → i < n → Dec (i < k) → trackNo l (k - 1) ≤ℤ trackNo l i
       go i p q (yes x) = w .begins .above i p x
       go i p q (no x) = sorted f (k - 1) i (omega arith) q
 
@@ -114,7 +114,7 @@ module _ {l : List ℤ} {n : ℕ} {t₁ t₂ a b : ℤ} {k from : ℕ} {best : J
   pub next-far : {part : List ℤ} {more : Jump} → Holds l n → Tail l from k part → more ≡ larger (extentOf (recs (length part / 4) part) a b) best → SoFar l n t₁ t₂ a b (k - length part / 4) more
   unfolding next-part
   next-far {part} o w m =
-      let u : ℤ = T l (k - 1) in
+      let u : ℤ = trackNo l (k - 1) in
       let p = next-part w in
       let x = v .split .below (k - 1) (omega arith) in
       let y = v .high in
@@ -161,10 +161,10 @@ module _ {l : List ℤ} {n : ℕ} (f : Front l n) where
   abbrev past : ℤ → Jump → Jump
   past t j = orNext j (pastTrack (onTrack t (recs n l)) t)
 
-  empty-past : (u v : ℤ) (k : ℕ) → Split l n v k → ((i : ℕ) → i < k → T l i <ℤ u) → (t : ℤ) → u ≤ℤ t → t <ℤ v → (j : Jump) → past t j ≡ j
+  empty-past : (u v : ℤ) (k : ℕ) → Split l n v k → ((i : ℕ) → i < k → trackNo l i <ℤ u) → (t : ℤ) → u ≤ℤ t → t <ℤ v → (j : Jump) → past t j ≡ j
   empty-past u v k s b t p q j = ap (λ (r : List (Rec ℤ)). orNext j (pastTrack r t)) (no-record u v k s b t p q) ∙ or-free j
 
-  pub occupied-none : (t₁ t₂ : ℤ) (k : ℕ) → Split l n t₂ k → ((i : ℕ) → i < k → T l i <ℤ t₁) → occupiedJump (recs n l) t₁ t₂ ≡ J.Free
+  pub occupied-none : (t₁ t₂ : ℤ) (k : ℕ) → Split l n t₂ k → ((i : ℕ) → i < k → trackNo l i <ℤ t₁) → occupiedJump (recs n l) t₁ t₂ ≡ J.Free
   occupied-none t₁ t₂ k s b = all-free past t₁ t₂ (empty-past t₁ t₂ k s b)
 
   up-to : (m : ℕ) (a u : ℤ) → gap a u ≤ m → a ≤ℤ u → past u J.Free ≡ J.Next (u +ℤ pos 1) → over past (span a (u +ℤ pos 1)) ≡ J.Next (u +ℤ pos 1)
@@ -178,9 +178,9 @@ module _ {l : List ℤ} {n : ℕ} (f : Front l n) where
           rw q (ap (over past) (span-cons u (u +ℤ pos 1) (u +ℤ pos 1) refl (omega (signed, sum u (pos 1)))) ∙ ap (past u) (ap (over past) (span-none (u +ℤ pos 1) (u +ℤ pos 1) (omega (signed, sum u (pos 1))))) ∙ e)
       go (yes x) r = ap (over past) (span-cons a (a +ℤ pos 1) (u +ℤ pos 1) refl (omega (signed, sum u (pos 1)))) ∙ ap (past a) (r (omega (signed, sum a (pos 1))) (omega signed))
 
-  pub occupied-some : (t₁ t₂ : ℤ) (k m : ℕ) → Split l n t₂ k → k ≡ suc m → t₁ ≤ℤ T l m → occupiedJump (recs n l) t₁ t₂ ≡ J.Next (T l m +ℤ pos 1)
+  pub occupied-some : (t₁ t₂ : ℤ) (k m : ℕ) → Split l n t₂ k → k ≡ suc m → t₁ ≤ℤ trackNo l m → occupiedJump (recs n l) t₁ t₂ ≡ J.Next (trackNo l m +ℤ pos 1)
   occupied-some t₁ t₂ k m s e h =
       let x = s .below m (omega arith) in
-      let last : (i : ℕ) → i < k → T l i <ℤ (T l m +ℤ pos 1) = λ i q. let y = sorted f i m (omega arith) (omega (arith, s .within)) in omega signed in
-      skip-back past t₁ (T l m +ℤ pos 1) t₂ (omega signed) (empty-past (T l m +ℤ pos 1) t₂ k s last)
-      ∙ up-to (gap t₁ (T l m)) t₁ (T l m) (omega arith) h (some-on (T l m) n (T l) (A l) (B l) (λ i. natAbs (S l i)) m (omega (arith, s .within)) (is-same (T l m) (T l m) (omega signed) (omega signed)))
+      let last : (i : ℕ) → i < k → trackNo l i <ℤ (trackNo l m +ℤ pos 1) = λ i q. let y = sorted f i m (omega arith) (omega (arith, s .within)) in omega signed in
+      skip-back past t₁ (trackNo l m +ℤ pos 1) t₂ (omega signed) (empty-past (trackNo l m +ℤ pos 1) t₂ k s last)
+      ∙ up-to (gap t₁ (trackNo l m)) t₁ (trackNo l m) (omega arith) h (some-on (trackNo l m) n (trackNo l) (startNo l) (endNo l) (λ i. natAbs (stateNo l i)) m (omega (arith, s .within)) (is-same (trackNo l m) (trackNo l m) (omega signed) (omega signed)))

@@ -1,7 +1,7 @@
 -- Between the reading side and the writing side: what a painter leaves holds, and what holds is laid out.
 use mathlib.Core.Path.{_≡_, refl, sym, ap, _∙_, subst}
-use mathlib.Core.List.{List, [], _∷_, _++_}
-use Prim.Native.Nat.{ℕ, _+_, _-_, _*_, _≤_}
+use mathlib.Core.List.{List, []}
+use Prim.Native.Nat.{ℕ, _-_, _*_, _≤_}
 use native.Mathlib.Omega.{arith}
 use lib.ListN.{length, take, drop, replicate}
 use lib.Seq.{take-at, drop-at}
@@ -12,9 +12,6 @@ use Rattle.intervals.specs.OverInt.{encode, digits, flat}
 use Rattle.intervals.proofs.Flat.{length-encode, length-flat}
 use Rattle.intervals.proofs.OverInt.{digit-laws}
 use Rattle.intervals.specs.Lists.{rules, recs, Holds}
-use Rattle.cell_occupancy.specs.Calls.{keptOf}
-use Rattle.cell_occupancy.specs.declared.rules.Used.{Used}
-use Rattle.cell_occupancy.specs.declared.rules.Used.the-variants.{Records}
 use Rattle.cell_occupancy.proofs.ByIndex.{length-recs, recs-enc}
 use Rattle.cell_occupancy.proofs.Named.{holds-kept}
 

@@ -1,18 +1,17 @@
 -- The list that an axis names, and its records of a track, by the tests of the code.
-use mathlib.Core.Path.{_≡_, refl, sym, ap, _∙_, subst}
+use mathlib.Core.Path.{_≡_, sym, subst}
 use mathlib.Core.List.{List, []}
-use mathlib.Core.Logic.{_≢_, _↔_}
 use Prim.Native.Nat.{ℕ, _%_, _≤_, _<_}
 use native.Mathlib.Omega.{arith}
 use lib.ListN.{length}
 use lib.IntN.{ℤ}
 use borrow.Author.Tests.{eq-eqb, ne-eqb, le-leb, lt-leb}
-use Rattle.intervals.specs.OverInt.{encode, digits}
+use Rattle.intervals.specs.OverInt.{encode}
 use Rattle.intervals.specs.Lists.{recs, onTrack, Holds}
 use Rattle.cell_occupancy.specs.Calls.{keptOf, partOf, trackOf}
 use Rattle.cell_occupancy.specs.declared.rules.Used.{Used}
 use Rattle.cell_occupancy.specs.declared.rules.Used.the-variants.{Records, Broken}
-use Rattle.cell_occupancy.proofs.ByIndex.{Answer, holds, broken, answer, Both, holds-both, both-holds, both-kept}
+use Rattle.cell_occupancy.proofs.ByIndex.{Answer, holds, broken, answer, holds-both, both-holds, both-kept}
 
 -- `kept`'s answer in both directions
 pub kept-holds : {l : List ℤ} {n : ℕ} → keptOf l ≡ Records n → Holds l n

@@ -8,12 +8,12 @@ use lib.Seq.{length-take-le}
 use lib.IntN.{ℤ, pos, _+ℤ_, natAbs}
 use lib.Signed.{_≤ℤ_, _<ℤ_}
 use Rattle.signed.proofs.Laws.{signed, g-lt-true, g-lt-false}
-use Rattle.intervals.specs.Records.{Rec, rec}
+use Rattle.intervals.specs.Records.{Rec}
 use Rattle.intervals.specs.Flat.{rows}
 use Rattle.intervals.specs.OverInt.{encode, decode}
 use Rattle.intervals.specs.Lists.{recs, onTrack, Holds}
 use Rattle.cell_occupancy.specs.Calls.{before, startOf, Stands}
-use Rattle.cell_occupancy.specs.Inner.{T, A, B, S, Split, Part}
+use Rattle.cell_occupancy.specs.Inner.{trackNo, startNo, endNo, stateNo, Split, Part}
 use Rattle.cell_occupancy.proofs.ByIndex.{holds-room, holds-decode}
 use Rattle.cell_occupancy.proofs.Sorted.{cut-is}
 
@@ -28,7 +28,7 @@ before-rows x (suc n) (suc p) t a b s h l u =
 
 -- the records before a track are those up to where it begins
 before-split : (l : List ℤ) (n : ℕ) (x : ℤ) (p : ℕ) → Split l n x p → before x (recs n l) ≡ p
-before-split l n x p s = before-rows x n p (T l) (A l) (B l) (λ i. natAbs (S l i)) (s .within) (s .below) (s .above)
+before-split l n x p s = before-rows x n p (trackNo l) (startNo l) (endNo l) (λ i. natAbs (stateNo l i)) (s .within) (s .below) (s .above)
 
 start-some : (t : ℤ) (rs : List (Rec ℤ)) (part : List ℤ) → 0 < length part → startOf t rs part ≡ 4 * before t rs
 start-some t rs [] h = absurd (omega arith)

@@ -1,8 +1,8 @@
 -- The list calls of document 01 that read a list: the rules check, collision jump, occupied-track jump, records of a track.
 use mathlib.Core.Path.{_≡_}
-use mathlib.Core.Bool.{Bool, true, false, cond, _&&_}
+use mathlib.Core.Bool.{Bool, cond, _&&_}
 use mathlib.Core.List.{List, [], _∷_}
-use Prim.Native.Nat.{ℕ, zero, suc, _+_, _*_, _≤_}
+use Prim.Native.Nat.{ℕ, suc, _+_, _*_, _≤_}
 use lib.Dec.{eqb}
 use lib.ListN.{length, take, drop}
 use lib.IntN.{ℤ, pos, _+ℤ_}

@@ -2,7 +2,7 @@
 use mathlib.Core.Path.{_≡_}
 use mathlib.Core.Bool.{Bool, true, false, not, _&&_, _||_}
 use mathlib.Core.List.{List}
-use Prim.Native.Nat.{ℕ, zero, suc, _+_, _-_, _*_, _<_, _≤_}
+use Prim.Native.Nat.{ℕ, suc, _+_, _-_, _*_, _<_, _≤_}
 use lib.ListN.{length, getD, take, drop}
 use lib.IntN.{ℤ, pos, negsuc, _+ℤ_}
 use lib.Signed.{ltZ, _≤ℤ_, _<ℤ_}
@@ -11,17 +11,17 @@ use Rattle.cell_occupancy.specs.Calls.{collisionJump}
 use Rattle.cell_occupancy.specs.declared.jumps.Jump.the-variants as J
 
 -- the numbers of record i
-abbrev pub T : List ℤ → ℕ → ℤ
-T l i = getD l (4 * i) (pos 0)
+abbrev pub trackNo : List ℤ → ℕ → ℤ
+trackNo l i = getD l (4 * i) (pos 0)
 
-abbrev pub A : List ℤ → ℕ → ℤ
-A l i = getD l (4 * i + 1) (pos 0)
+abbrev pub startNo : List ℤ → ℕ → ℤ
+startNo l i = getD l (4 * i + 1) (pos 0)
 
-abbrev pub B : List ℤ → ℕ → ℤ
-B l i = getD l (4 * i + 2) (pos 0)
+abbrev pub endNo : List ℤ → ℕ → ℤ
+endNo l i = getD l (4 * i + 2) (pos 0)
 
-abbrev pub S : List ℤ → ℕ → ℤ
-S l i = getD l (4 * i + 3) (pos 0)
+abbrev pub stateNo : List ℤ → ℕ → ℤ
+stateNo l i = getD l (4 * i + 3) (pos 0)
 
 -- P, or not P, by a flag
 abbrev pub Says : Bool → Type 0 → Type 0
@@ -65,8 +65,8 @@ Zeros l k = (j : ℕ) → k ≤ j → j < length l → getD l j (pos 0) ≡ pos 
 -- r is where the records of tracks from x on begin
 pub record Split (l : List ℤ) (n : ℕ) (x : ℤ) (r : ℕ) : Type 0 where
   pub within : r ≤ n
-  pub below : (k : ℕ) → k < r → T l k <ℤ x
-  pub above : (k : ℕ) → r ≤ k → k < n → x ≤ℤ T l k
+  pub below : (k : ℕ) → k < r → trackNo l k <ℤ x
+  pub above : (k : ℕ) → r ≤ k → k < n → x ≤ℤ trackNo l k
 
 -- r is the part of l that holds the records of track t among the first n, as a part of the list
 pub record Part (l : List ℤ) (n : ℕ) (t : ℤ) (r : List ℤ) : Type 0 where
@@ -81,13 +81,13 @@ pub record Part (l : List ℤ) (n : ℕ) (t : ℤ) (r : List ℤ) : Type 0 where
 pub record Tail (l : List ℤ) (from to : ℕ) (r : List ℤ) : Type 0 where
   pub at : ℕ
   pub low : from ≤ at
-  pub begins : Split l to (T l (to - 1)) at
+  pub begins : Split l to (trackNo l (to - 1)) at
   pub cut : r ≡ take (4 * to - 4 * at) (drop (4 * at) l)
 
 -- records one behind the other on one track: each ends at or before the start of the next
 pub record Ascends (l : List ℤ) (n : ℕ) : Type 0 where
-  pub order : (i : ℕ) → i < n → A l i <ℤ B l i
-  pub next : (i : ℕ) → suc i < n → B l i ≤ℤ A l (suc i)
+  pub order : (i : ℕ) → i < n → startNo l i <ℤ endNo l i
+  pub next : (i : ℕ) → suc i < n → endNo l i ≤ℤ startNo l (suc i)
 
 -- a search upward: no line from start on before `line` has its area free
 pub record Searched (rs : List (Rec ℤ)) (t₁ t₂ start span line : ℤ) : Type 0 where

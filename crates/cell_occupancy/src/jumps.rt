@@ -1,7 +1,6 @@
 // Jumps over what is taken: past the records that an area meets, and past the last track with a record.
 ghost use mathlib.Core.Path.{_≡_};
-ghost use mathlib.Core.Bool.{true, false};
-ghost use Prim.Native.Nat.{ℕ, _/_};
+ghost use Prim.Native.Nat.{_/_};
 ghost use lib.ListN.{length};
 ghost use lib.IntN.{ℤ, pos, _+ℤ_};
 ghost use lib.Signed.{_≤ℤ_, _<ℤ_};

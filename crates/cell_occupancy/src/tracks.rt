@@ -6,7 +6,7 @@ ghost use lib.Signed.{_<ℤ_};
 ghost use Rattle.intervals.specs.OverInt.{encode};
 ghost use Rattle.intervals.specs.Lists.{Holds, recs, onTrack};
 ghost use Rattle.cell_occupancy.specs.Calls.{trackOf, recordsOfTrack, Stands, named};
-ghost use Rattle.cell_occupancy.specs.Inner.{T, Front, Split, Part, Tail};
+ghost use Rattle.cell_occupancy.specs.Inner.{trackNo, Front, Split, Part, Tail};
 use crate::rules::Used;
 use crate::rules::kept;
 use crate::rules::number;
@@ -21,7 +21,7 @@ pub struct Place {
 pub fn lower(list: &[i16], from: usize, used: usize, x: i32) -> usize
     requires { ⌜ Front (now list) used ⌝ }
     requires { ⌜ from ≤ used ⌝ }
-    requires { ⌜ ((k : ℕ) → k < from → T (now list) k <ℤ x) ⌝ }
+    requires { ⌜ ((k : ℕ) → k < from → trackNo (now list) k <ℤ x) ⌝ }
     ensures { λ r. ⌜ (from ≤ r) × Split (now (list .entry)) used x r ⌝ }
 {
     let mut lo = from;
@@ -42,7 +42,7 @@ pub fn lower(list: &[i16], from: usize, used: usize, x: i32) -> usize
 pub fn last_track<'a>(list: &'a [i16], from: usize, to: usize) -> &'a [i16]
     requires { ⌜ Front (now list) to ⌝ }
     requires { ⌜ from < to ⌝ }
-    requires { ⌜ ((k : ℕ) → k < from → T (now list) k <ℤ T (now list) (to - 1)) ⌝ }
+    requires { ⌜ ((k : ℕ) → k < from → trackNo (now list) k <ℤ trackNo (now list) (to - 1)) ⌝ }
     ensures { λ r. ⌜ Tail (now (list .entry)) from to (now r) ⌝ }
 {
     let track = number(list, 4 * (to - 1));

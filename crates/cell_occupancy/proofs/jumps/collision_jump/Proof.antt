@@ -1,19 +1,17 @@
 -- `jumps::collision_jump`: the jump over the tracks that were looked at, from behind. Assumes nothing.
-use mathlib.Core.Path.{_≡_, refl, sym, ap, _∙_, subst}
+use mathlib.Core.Path.{_≡_, ap, _∙_, subst}
 use mathlib.Core.List.{List}
-use Prim.Native.Nat.{ℕ, _+_, _-_, _/_, _≤_, _<_}
+use Prim.Native.Nat.{ℕ, _-_, _≤_}
 use native.Mathlib.Omega.{arith}
-use lib.ListN.{length}
 use lib.IntN.{ℤ}
 use mir.Syntax.{w16, w32}
 use mir.Val.{toZ, ofZ}
 use mir.Facts.{toZ-ofZ}
 use Rattle.signed.proofs.Laws.{signed}
 use Rattle.intervals.specs.Lists.{recs}
-use Rattle.cell_occupancy.specs.Calls.{larger, extentOf, collisionJump}
-use Rattle.cell_occupancy.specs.Inner.{Front, Split, Tail}
+use Rattle.cell_occupancy.specs.Calls.{larger, collisionJump}
+use Rattle.cell_occupancy.specs.Inner.{Front, Split}
 use Rattle.cell_occupancy.specs.declared.jumps.Extent.{Extent}
-use Rattle.cell_occupancy.specs.declared.jumps.Jump.{Jump}
 use Rattle.cell_occupancy.proofs.ByIndex.{holds-front}
 use Rattle.cell_occupancy.proofs.LastOverlap.{part-ascends}
 use Rattle.cell_occupancy.proofs.Crossed.{SoFar, start-far, next-before, next-front, next-part, next-at, next-less, next-far, all-far}

@@ -1,5 +1,5 @@
 -- `rules::kept`. Assumes nothing.
-use mathlib.Core.Path.{_≡_, sym}
+use mathlib.Core.Path.{sym}
 use Prim.Native.Nat.{_*_}
 use Rattle.cell_occupancy.specs.Inner.{Zeros}
 use Rattle.cell_occupancy.proofs.ByIndex.{says-yes, says-no, both-kept, front-broken}

@@ -7,7 +7,7 @@ use lib.IntN.{ℤ}
 use mir.Syntax.{w16, w32}
 use mir.Val.{toZ, ofZ}
 use Rattle.signed.proofs.Laws.{signed}
-use Rattle.cell_occupancy.specs.Inner.{T, Split}
+use Rattle.cell_occupancy.specs.Inner.{trackNo, Split}
 use borrow.Author.Needs.{needs}
 use Rattle.cell_occupancy.proofs.tracks.last_track.Statement.{statement}
 use Rattle.cell_occupancy.proofs.tracks.last_track.Tie as tie
@@ -51,7 +51,7 @@ returns c =
     let s = a .before .before in
     let l : List ℤ = s .args .list .now in
     let n : ℕ = s .args .to in
-    let e : toZ w32 (ofZ w32 (toZ w16 (ofZ w16 (a .before .number .result)))) ≡ T l (n - 1) = omega (signed, cast-lower (a .before)) in
+    let e : toZ w32 (ofZ w32 (toZ w16 (ofZ w16 (a .before .number .result)))) ≡ trackNo l (n - 1) = omega (signed, cast-lower (a .before)) in
     record { at = a .lower .result; low = a .lower .ensures .0; begins = subst (λ (x : ℤ). Split l n x (a .lower .result)) e (a .lower .ensures .1); cut = refl }
 
 pub last-track-spec : {M : Type 1} → statement M

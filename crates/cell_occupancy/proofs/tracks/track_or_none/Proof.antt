@@ -1,8 +1,6 @@
 -- `tracks::track_or_none`. Assumes nothing.
-use mathlib.Core.Path.{_≡_, refl, sym, _∙_, subst}
-use mathlib.Core.List.{List}
+use mathlib.Core.Path.{refl}
 use native.Mathlib.Omega.{arith}
-use lib.IntN.{ℤ}
 use mir.Facts.{toZ-ofZ}
 use Rattle.cell_occupancy.proofs.Standing.{stands-part}
 use borrow.Author.Needs.{needs}

@@ -1,5 +1,5 @@
 -- `tracks::track_place`. Assumes nothing.
-use mathlib.Core.Path.{_≡_, refl}
+use mathlib.Core.Path.{refl}
 use mir.Facts.{toZ-ofZ}
 use borrow.Author.Tests.{eq-eqb, ne-eqb}
 use Rattle.cell_occupancy.proofs.Standing.{stands-none}
