@@ -1,0 +1,9 @@
+pub mod Bits
+pub mod Build
+pub mod Found
+pub mod Above
+pub mod Count
+pub mod Moves
+pub mod Sweep
+pub mod Whole
+pub mod Callers

@@ -1,0 +1,26 @@
+-- `clear` meets its contract.
+use mathlib.Core.Path.{_≡_, refl, sym, ap, _∙_}
+use mathlib.Core.List.{List, [], _∷_, _++_, append-nil}
+use Prim.Native.Nat.{ℕ, _+_, _-_, _≤_}
+use native.Mathlib.Omega.{arith}
+use lib.ListN.{length, take, drop, replicate}
+use lib.Seq.{paste}
+use lib.IntN.{ℤ, pos}
+use borrow.Author.Needs.{needs}
+use Rattle.flat_records.proofs.Parts.{paste-whole}
+use Rattle.cell_painting.proofs.clear.Statement.{statement}
+use Rattle.cell_painting.proofs.clear.Tie as tie
+
+wipe-requires : tie.Need-wipe-requires
+wipe-requires c κs = search needs
+
+same-length : tie.Need-same-length
+same-length c = search needs
+
+returns : tie.Need-returns
+returns c =
+    let l = c .before .before .before .args .list .now in
+    paste-whole l (length l - 0) (pos 0) _ (omega arith) (c .before .wipe .ensures)
+
+pub clear-spec : {M : Type 1} → statement M
+clear-spec = tie.close (tie.spec wipe-requires same-length returns)

@@ -1,0 +1,3 @@
+pub mod Painting
+pub mod Reach
+pub mod Passes
