@@ -10,12 +10,11 @@ use lib.Signed.{_<ℤ_}
 use Rattle.intervals.specs.Records.{Rec}
 use Rattle.intervals.specs.OverInt.{flat}
 use Rattle.intervals.specs.Lists.{rules, recs}
-use Rattle.cell_occupancy.specs.Calls.{keptOf, collisionJump, occupiedJump}
+use Rattle.cell_occupancy.specs.Calls.{keptOf, collisionJump, occupiedJump, Stands}
 use Rattle.cell_occupancy.specs.declared.rules.Used.the-variants.{Records}
 use Rattle.cell_occupancy.specs.declared.jumps.Jump.the-variants as J
 use Rattle.cell_occupancy.proofs.ByIndex.{length-recs, recs-enc}
 use Rattle.cell_occupancy.proofs.Named.{kept-holds, holds-kept}
-use Rattle.cell_occupancy.specs.Calls.{Stands}
 use Rattle.cell_occupancy.specs.Meaning.{IsFlatOf, IsFree, Collides, IsClear, LastTrack}
 use Rattle.cell_occupancy.proofs.Collisions.{jump-free, jump-next}
 use Rattle.cell_occupancy.proofs.Occupied.{clear-jump, last-jump}
