@@ -9,6 +9,7 @@ use lib.IntN.{ℤ, pos, _+ℤ_, _-ℤ_}
 use lib.Signed.{ltZ, _≤ℤ_, _<ℤ_}
 use Rattle.signed.proofs.Laws.{signed, sum, dif, g-lt-true, g-lt-false}
 use Rattle.intervals.proofs.Line.{Test, yea, nay, test, no-both}
+use Rattle.intervals.proofs.Tracks.{same-yes}
 use Rattle.intervals.specs.Records.{Rec, rec, same}
 use Rattle.intervals.proofs.Grid.{and-l, and-r}
 use Rattle.intervals.proofs.Paint.{mem}
@@ -21,7 +22,7 @@ use Rattle.cell_occupancy.specs.declared.jumps.Extent.the-variants as X
 use Rattle.cell_occupancy.specs.declared.jumps.Jump.{Jump}
 use Rattle.cell_occupancy.specs.declared.jumps.Jump.the-variants as J
 use Rattle.cell_occupancy.specs.Meaning.{IsFree, Taken, Collides}
-use Rattle.cell_occupancy.proofs.Cells.{sound, Has, here, there, has-order, has-cell, same-eq, between-is, Cell, empty, filled, cell}
+use Rattle.cell_occupancy.proofs.Cells.{sound, Has, here, there, has-order, has-cell, between-is, Cell, empty, filled, cell}
 
 -- ---- the extent on a track
 
@@ -66,7 +67,7 @@ extent-last (rec u c d s ∷ rs) t a b e h = go (test (same ltZ t u)) (λ k. ext
         by (inr k) =
             let x = if-ends (overlaps a b c d) d e (k .1) in
             let o = overlap-is a b c d (x .0) in
-            let v : u ≡ t = sym (same-eq t u q) in
+            let v : u ≡ t = sym (same-yes t u q) in
             record { from = c; has = subst (λ (w : ℤ). Has t c w (rec u c d s ∷ rs)) (x .1) (subst (λ (w : ℤ). Has w c d (rec u c d s ∷ rs)) v here); before = o .0; past = let y = o .1 in let w = x .1 in omega signed }
 
 -- no record of the track overlaps
@@ -105,7 +106,7 @@ module _ (F : ℤ → Extent) where
   over-free t (u ∷ ts) h m = go (test (same ltZ t u)) (larger-free (F u) (over step ts) h) (λ k j. over-free t ts k j)
     where
       go : Test (same ltZ t u) → (F u ≡ X.Free) × (over step ts ≡ J.Free) → (over step ts ≡ J.Free → mem ltZ t ts ≡ true → F t ≡ X.Free) → F t ≡ X.Free
-      go (yea q) k r = ap F (same-eq t u q) ∙ k .0
+      go (yea q) k r = ap F (same-yes t u q) ∙ k .0
       go (nay q) k r = r (k .1) (rw q at m)
 
   pub record Where (ts : List ℤ) (e : ℤ) : Type 0 where
