@@ -1,4 +1,5 @@
 pub mod ByIndex
+pub mod Turns
 pub mod Sorted
 pub mod Named
 pub mod Laid
