@@ -1,15 +1,14 @@
 -- Painting one interval x..y of a line with a state s, as a cut: the runs before it that do not reach it stay (`leads` of them), those that reach it
 -- (`mids`) are replaced by `new`, and the others stay. X is any linear order.
-use mathlib.Core.Path.{_≡_, refl, sym, ap, _∙_}
-use mathlib.Core.Bool.{Bool, true, false, not, cond}
+use mathlib.Core.Path.{_≡_, refl, ap, _∙_}
+use mathlib.Core.Bool.{Bool, true, false, cond}
 use mathlib.Core.List.{List, [], _∷_, _++_}
-use mathlib.Core.Logic.{_≢_}
-use Prim.Native.Nat.{ℕ, zero, suc}
+use Prim.Native.Nat.{ℕ, suc}
 use lib.Dec.{eqb}
 use lib.ListN.{take, drop}
-use borrow.Author.Tests.{eqb-true, eqb-false, ne-eqb, eq-eqb}
+use borrow.Author.Tests.{eqb-true, eqb-false, ne-eqb}
 use Rattle.intervals.specs.Paint.{Run, run, put, after, before, paint}
-use Rattle.intervals.specs.Cut.{gapb, lrem, lstart, rtail, rend, new}
+use Rattle.intervals.specs.Cut.{gapb, rtail, rend, new}
 use Rattle.intervals.proofs.Line as Ln
 use Rattle.intervals.proofs.Line.{Linear, _≺_, _≼_, Gap, apart, touch, From, none, next, Rules, Test, yea, nay, test}
 
@@ -148,4 +147,5 @@ module _ {X : Type 0} (ltb : X → X → Bool) (L : Linear X ltb) (Ok : ℕ → 
             let i : _≼_ ltb q x = Ln.gap-le ltb L Ok W R h in
             let j : _≺_ ltb p x = Ln.<-≤ ltb L (R .up w) i in
             let k : _≼_ ltb q y = Ln.weak ltb L (Ln.≤-< ltb L i l) in
-            rw (e, j .lt, i .le, k .le) (lead-one p (after ltb y rs) f h ∙ ap (λ (z : List (Run X)). run p q v ∷ z) r)
+            let d : run p q v ∷ paint ltb rs x y s ≡ run p q v ∷ cutAt ltb x y s (leads ltb x s rs) (mids ltb y s (drop (leads ltb x s rs) rs)) rs = ap (λ (z : List (Run X)). run p q v ∷ z) r in
+            rw (e, j .lt, i .le, k .le) (lead-one p (after ltb y rs) f h ∙ d)

@@ -1,18 +1,17 @@
 -- The runs that an interval reaches, and how many runs painting leaves.
 use mathlib.Core.Path.{_≡_, refl, sym, ap, _∙_}
-use mathlib.Core.Bool.{Bool, true, false, not, cond, _&&_}
-use mathlib.Core.List.{List, [], _∷_, _++_, append-assoc, append-nil}
-use mathlib.Core.Logic.{_≢_}
-use Prim.Native.Nat.{ℕ, zero, suc, _+_, _≤_}
+use mathlib.Core.Bool.{Bool, true, false}
+use mathlib.Core.List.{List, [], _∷_, _++_}
+use Prim.Native.Nat.{ℕ, _+_}
 use native.Mathlib.Omega.{arith}
 use lib.Dec.{eqb}
 use lib.ListN.{take, drop, length, length-append, take-append-drop}
 use Rattle.intervals.specs.Paint.{Run, run, paint}
 use Rattle.intervals.specs.Cut.{gapb, lrem, lstart, rtail, rend, new, meets, hit}
 use Rattle.intervals.proofs.Line as Ln
-use Rattle.intervals.proofs.Line.{Linear, _≺_, _≼_, Gap, apart, touch, From, none, next, Rules, Test, yea, nay, test}
+use Rattle.intervals.proofs.Line.{Linear, _≺_, _≼_, From, none, next, Rules, Test, yea, nay, test}
 use Rattle.intervals.proofs.Cut as Cu
-use Rattle.intervals.proofs.Cut.{leads, mids, cutAt}
+use Rattle.intervals.proofs.Cut.{leads, mids}
 
 module _ {X : Type 0} (ltb : X → X → Bool) where
   pub hit-append : (x y : X) (s : ℕ) (xs ys : List (Run X)) → hit ltb x y s (xs ++ ys) ≡ hit ltb x y s xs ++ hit ltb x y s ys

@@ -1,16 +1,14 @@
 -- Lists of records by their indices, as code has them: record i is T i, A i, B i, S i.
 use mathlib.Core.Path.{_≡_, refl, sym, ap, _∙_}
-use mathlib.Core.Bool.{Bool, true, false, not, cond, _&&_}
+use mathlib.Core.Bool.{Bool, true, false, not, _&&_}
 use mathlib.Core.List.{List, [], _∷_, _++_}
-use mathlib.Core.Logic.{_≢_, _↔_}
-use Prim.Native.Nat.{ℕ, zero, suc, _+_, _-_, _*_, _<_, _≤_}
+use Prim.Native.Nat.{ℕ, zero, suc, _+_, _*_, _<_, _≤_}
 use native.Mathlib.Omega.{arith}
-use lib.Dec.{eqb}
 use lib.ListN.{length, getD}
 use borrow.Author.Tests.{not-true}
 use Rattle.intervals.specs.Records.{Rec, rec, same, between, cellOf, keeps, behind, follows}
-use Rattle.intervals.specs.Paint.{toRun, pt, lex}
-use Rattle.intervals.specs.Flat.{Digits, decode, isFlat, zeros, encode, rows, flatRows}
+use Rattle.intervals.specs.Paint.{lex}
+use Rattle.intervals.specs.Flat.{Digits, decode, isFlat, zeros, rows, flatRows}
 use Rattle.intervals.proofs.Line as Ln
 use Rattle.intervals.proofs.Line.{Linear, Test, yea, nay, test, no-both}
 use Rattle.intervals.proofs.Grid as Gr

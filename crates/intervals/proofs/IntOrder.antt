@@ -1,6 +1,4 @@
 -- The integers are a linear order.
-use mathlib.Core.Path.{_≡_}
-use mathlib.Core.Bool.{true, false}
 use lib.IntN.{ℤ}
 use lib.Signed.{ltZ}
 use Rattle.signed.proofs.Laws.{signed}

@@ -1,15 +1,14 @@
 -- The runs that a track's paint reaches are on it; and the cut by its seams, at the integers.
-use mathlib.Core.Path.{_≡_, refl, sym, ap, _∙_}
-use mathlib.Core.Bool.{Bool, true, false, cond}
+use mathlib.Core.Path.{_≡_, refl}
 use mathlib.Core.List.{List, [], _∷_, _++_}
 use Prim.Native.Nat.{ℕ}
 use lib.IntN.{ℤ}
 use lib.Signed.{ltZ}
-use Rattle.intervals.specs.Paint.{Run, run, Point, pt, trackOf}
+use Rattle.intervals.specs.Paint.{run, Point, pt, trackOf}
 use Rattle.intervals.specs.OverInt.{ok}
-use Rattle.intervals.specs.Cut.{new, meets, hit, lx, Rn, P, H}
+use Rattle.intervals.specs.Cut.{new, meets, lx, Rn, P, H}
 use Rattle.intervals.proofs.Line as Ln
-use Rattle.intervals.proofs.Line.{_≺_, From, none, next, Keeps, empty, first, Test, yea, nay, test}
+use Rattle.intervals.proofs.Line.{_≺_, From, none, next, empty, first, Test, yea, nay, test}
 use Rattle.intervals.proofs.Grid as Gr
 use Rattle.intervals.proofs.Grid.{Span}
 use Rattle.intervals.proofs.IntOrder.{int-linear}

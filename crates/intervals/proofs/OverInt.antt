@@ -1,20 +1,19 @@
 -- The theory at the integers, with today's states.
-use mathlib.Core.Path.{_≡_, refl, sym, ap, _∙_}
+use mathlib.Core.Path.{_≡_, refl, ap, _∙_}
 use mathlib.Core.Bool.{Bool, true, false, not, cond, _&&_, _||_}
-use mathlib.Core.List.{List, [], _∷_}
+use mathlib.Core.List.{List}
 use mathlib.Core.Logic.{_↔_}
-use Prim.Native.Nat.{ℕ, zero, suc, _+_, _-_, _<_, _≤_}
-use lib.Dec.{ltb, eqb}
+use Prim.Native.Nat.{ℕ, zero, suc, _+_}
+use lib.Dec.{ltb}
 use lib.IntN.{ℤ, pos, negsuc, _+ℤ_, natAbs}
 use lib.Signed.{ltZ, nonNeg}
 use lib.ListN.{length}
 use borrow.Author.Tests.{eqb-true, ltb-true, ltb-false, lt-ltb, le-ltb}
 use Rattle.signed.specs.Parts.{up, dn, gap}
 use Rattle.signed.proofs.Laws.{signed, sum}
-use Rattle.intervals.specs.Records.{Rec, rec, Area, area, same, between}
-use Rattle.intervals.specs.Flat.{Digits}
-use Rattle.intervals.specs.OverInt.{upto, span, ok, cellOf, keeps, stateAt, fit, fits, paintList, painted, isZero, digits, decode, flat, isFlat}
-use Rattle.intervals.proofs.Line.{no-both, Linear, Test, yea, nay, test}
+use Rattle.intervals.specs.Records.{Rec, Area, area, same, between}
+use Rattle.intervals.specs.OverInt.{upto, span, ok, cellOf, keeps, stateAt, fit, fits, paintList, painted, isZero, digits, decode, isFlat}
+use Rattle.intervals.proofs.Line.{no-both, Test, yea, nay, test}
 use Rattle.intervals.proofs.Grid as Gr
 use Rattle.intervals.proofs.Paint as Pa
 use Rattle.intervals.proofs.Paint.{mem}

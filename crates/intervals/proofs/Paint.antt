@@ -1,16 +1,16 @@
 -- What the paint of an area does to the cells of a list and to its rules, and histories of paints. The tracks of an area come from any `span` that
 -- lists the tracks between two.
 use mathlib.Core.Path.{_≡_, refl, sym, ap, _∙_}
-use mathlib.Core.Bool.{Bool, true, false, not, cond, _&&_, _||_}
+use mathlib.Core.Bool.{Bool, true, false, cond, _&&_, _||_}
 use mathlib.Core.List.{List, [], _∷_, map}
-use mathlib.Core.Logic.{_≢_, _↔_}
+use mathlib.Core.Logic.{_↔_}
 use Prim.Native.Nat.{ℕ}
-use Rattle.intervals.specs.Records.{Rec, rec, Area, area, same, between, cellOf, stateAt, keeps, fit, fits}
-use Rattle.intervals.specs.Paint.{Run, run, paint, Point, pt, trackOf, posOf, toRun, toRec, lex, paintTracks, paintList, painted}
+use Rattle.intervals.specs.Records.{Rec, Area, area, same, between, cellOf, stateAt, keeps, fit, fits}
+use Rattle.intervals.specs.Paint.{Run, run, Point, pt, toRun, toRec, lex, paintTracks, paintList, painted}
 use Rattle.intervals.proofs.Line as Ln
-use Rattle.intervals.proofs.Line.{Linear, cell, _≺_, _≼_, From, none, next, Keeps, empty, first}
+use Rattle.intervals.proofs.Line.{Linear, cell, _≺_, From, none, next, Keeps, empty, first}
 use Rattle.intervals.proofs.Grid as Gr
-use Rattle.intervals.proofs.Grid.{Span, and-l, and-r, and₃, and-i}
+use Rattle.intervals.proofs.Grid.{Span, and-l, and-r, and₃}
 
 -- t is one of the tracks
 abbrev pub mem : {Z : Type 0} → (Z → Z → Bool) → Z → List Z → Bool

@@ -1,17 +1,17 @@
 -- A list taken apart by tests at the seams: what lies before an interval, what it reaches, and what lies behind.
 use mathlib.Core.Path.{_≡_, refl, sym, ap, _∙_, subst}
-use mathlib.Core.Bool.{Bool, true, false, not, cond, _&&_}
+use mathlib.Core.Bool.{Bool, true, false}
 use mathlib.Core.List.{List, [], _∷_, _++_, append-assoc}
-use Prim.Native.Nat.{ℕ, zero, suc, _+_}
+use Prim.Native.Nat.{ℕ, suc}
 use native.Mathlib.Omega.{arith}
 use lib.ListN.{take, drop, length, length-append}
-use lib.Seq.{take-append-seam, drop-append-seam, append-snoc}
+use lib.Seq.{take-append-seam, drop-append-seam}
 use Rattle.intervals.specs.Paint.{Run, run, paint}
 use Rattle.intervals.specs.Cut.{gapb, new, hit}
 use Rattle.intervals.proofs.Line as Ln
-use Rattle.intervals.proofs.Line.{Linear, _≺_, _≼_, Gap, From, none, next, Rules, Test, yea, nay, test}
+use Rattle.intervals.proofs.Line.{Linear, _≺_, _≼_, From, next, Rules}
 use Rattle.intervals.proofs.Cut as Cu
-use Rattle.intervals.proofs.Cut.{leads, mids, cutAt}
+use Rattle.intervals.proofs.Cut.{leads, mids}
 use Rattle.intervals.proofs.Hit as Hi
 
 one-more : {A : Type 0} (rs xs : List A) (r : A) → xs ≡ rs ++ (r ∷ []) → length xs ≡ suc (length rs)

@@ -1,27 +1,25 @@
 -- Painting the tracks of an area, at the integers: which runs a track's paint reaches, how many runs there are afterwards, and the two sweeps.
 use mathlib.Core.Path.{_≡_, refl, sym, ap, _∙_}
-use mathlib.Core.Bool.{Bool, true, false, not, cond, _&&_, _||_}
-use mathlib.Core.List.{List, [], _∷_, _++_}
-use mathlib.Core.Logic.{_≢_}
-use Prim.Native.Nat.{ℕ, zero, suc, _+_, _-_, _≤_, _<_}
+use mathlib.Core.Bool.{Bool, true, false, cond, _&&_, _||_}
+use mathlib.Core.List.{List, [], _∷_}
+use Prim.Native.Nat.{ℕ, _+_, _≤_}
 use native.Mathlib.Omega.{arith}
-use lib.Dec.{eqb, leb}
-use lib.IntN.{ℤ, pos, negsuc, sucℤ}
+use lib.Dec.{leb}
+use lib.IntN.{ℤ}
 use lib.Signed.{ltZ}
 use lib.ListN.{length}
 use borrow.Author.Tests.{leb-true, leb-false}
 use Rattle.intervals.specs.Records.{same, between}
-use Rattle.intervals.specs.Paint.{Run, run, paint, Point, pt, trackOf, posOf, lex, paintTracks}
+use Rattle.intervals.specs.Paint.{Point, pt, trackOf}
 use Rattle.intervals.specs.OverInt.{ok}
-use Rattle.intervals.specs.Cut.{gapb, new, meets, hit, lx, Rn, P, PT, H, N, sw}
+use Rattle.intervals.specs.Cut.{gapb, new, meets, lx, Rn, P, PT, H, N, sw}
 use Rattle.intervals.proofs.Line as Ln
-use Rattle.intervals.proofs.Line.{Linear, cell, _≺_, _≼_, From, none, next, Keeps, empty, first, Test, yea, nay, test, no-both}
+use Rattle.intervals.proofs.Line.{Linear, cell, _≺_, none, Keeps, empty, first, Test, yea, nay, test, no-both}
 use Rattle.intervals.proofs.Grid as Gr
 use Rattle.intervals.proofs.Grid.{Span}
 use Rattle.intervals.proofs.Paint as Pa
-use Rattle.intervals.proofs.Paint.{mem, merge}
+use Rattle.intervals.proofs.Paint.{mem}
 use Rattle.intervals.proofs.IntOrder.{int-linear}
-use Rattle.intervals.proofs.Cut as Cu
 use Rattle.intervals.proofs.Hit as Hi
 
 abbrev pub OK : ℕ → Type 0

@@ -2,7 +2,7 @@
 -- the functions that paint in place say what they do; that they paint is proved (`is-cut`, `split`, `count`, `sw-all` in proofs/).
 use mathlib.Core.Bool.{Bool, true, false, not, cond, _||_}
 use mathlib.Core.List.{List, [], _∷_, _++_}
-use Prim.Native.Nat.{ℕ, _+_}
+use Prim.Native.Nat.{ℕ}
 use lib.Dec.{eqb, leb}
 use lib.IntN.{ℤ}
 use lib.Signed.{ltZ}

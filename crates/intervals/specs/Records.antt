@@ -1,6 +1,6 @@
 -- Occupancy lists as lists of records, the state that a record or a painted area gives to a cell, and the list rules. Z is the type of tracks and
 -- lines, given with its test `ltb` for 'below'; `ok` tests which numbers are states.
-use mathlib.Core.Bool.{Bool, true, false, not, cond, _&&_, _||_}
+use mathlib.Core.Bool.{Bool, true, not, cond, _&&_, _||_}
 use mathlib.Core.List.{List, [], _∷_}
 use Prim.Native.Nat.{ℕ}
 use lib.Dec.{eqb}
