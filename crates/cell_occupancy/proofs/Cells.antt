@@ -13,7 +13,7 @@ use Rattle.intervals.specs.Records.{Rec, rec, same, between, behind, follows}
 use Rattle.intervals.proofs.Grid.{and-l, and-r, and₃}
 use Rattle.intervals.specs.OverInt.{ok, keeps, cellOf}
 use Rattle.intervals.specs.Lists.{inGrid, allIn, rules}
-use Rattle.cell_occupancy.proofs.ByIndex.{in-is}
+use Rattle.intervals.proofs.Lists.{in-is}
 
 -- ---- each record by itself
 

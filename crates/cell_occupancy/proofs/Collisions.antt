@@ -15,13 +15,13 @@ use Rattle.intervals.proofs.Grid.{and-l, and-r}
 use Rattle.intervals.proofs.Paint.{mem}
 use Rattle.intervals.specs.OverInt.{cellOf, span}
 use Rattle.intervals.proofs.OverInt.{span-is}
-use Rattle.intervals.specs.Lists.{rules, onTrack}
+use Rattle.intervals.specs.Lists.{rules, onTrack, Free}
 use Rattle.cell_occupancy.specs.Calls.{overlaps, orElse, extentOf, larger, over, collisionJump}
 use Rattle.cell_occupancy.specs.declared.jumps.Extent.{Extent}
 use Rattle.cell_occupancy.specs.declared.jumps.Extent.the-variants as X
 use Rattle.cell_occupancy.specs.declared.jumps.Jump.{Jump}
 use Rattle.cell_occupancy.specs.declared.jumps.Jump.the-variants as J
-use Rattle.cell_occupancy.specs.Meaning.{IsFree, Taken, Collides}
+use Rattle.cell_occupancy.specs.Meaning.{Taken, Collides}
 use Rattle.cell_occupancy.proofs.Cells.{sound, Has, here, there, has-order, has-cell, between-is, Cell, empty, filled, cell}
 
 -- ---- the extent on a track
@@ -162,10 +162,10 @@ module _ (rs : List (Rec ℤ)) (h : rules rs ≡ true) (t₁ t₂ a b : ℤ) whe
         again = λ p x y. taken (w .track) e p (p +ℤ (b -ℤ a)) (r .0) (r .1) m y (omega (signed, sum p (b -ℤ a), dif b a)) (omega (signed, sum p (b -ℤ a), dif b a));
       }
 
-  pub jump-free : a <ℤ b → collisionJump rs t₁ t₂ a b ≡ J.Free ↔ IsFree rs t₁ t₂ a b
+  pub jump-free : a <ℤ b → collisionJump rs t₁ t₂ a b ≡ J.Free ↔ Free rs t₁ t₂ a b
   jump-free ab = (there-is, back-is)
     where
-      there-is : collisionJump rs t₁ t₂ a b ≡ J.Free → IsFree rs t₁ t₂ a b
+      there-is : collisionJump rs t₁ t₂ a b ≡ J.Free → Free rs t₁ t₂ a b
       there-is f t p l u x y = go (cell rs t p)
         where
           m : mem ltZ t (span t₁ t₂) ≡ true
@@ -176,7 +176,7 @@ module _ (rs : List (Rec ℤ)) (h : rules rs ≡ true) (t₁ t₂ a b : ℤ) whe
           go (filled c d k v w) =
               no-both (rw (g-lt-true c b (omega signed), g-lt-true a d (omega signed))) (extent-free a b k (over-free (λ t. extentOf (onTrack t rs) a b) t (span t₁ t₂) f m))
 
-      back-is : IsFree rs t₁ t₂ a b → collisionJump rs t₁ t₂ a b ≡ J.Free
+      back-is : Free rs t₁ t₂ a b → collisionJump rs t₁ t₂ a b ≡ J.Free
       back-is z = go (shape (collisionJump rs t₁ t₂ a b))
         where
           go : Shape (collisionJump rs t₁ t₂ a b) → collisionJump rs t₁ t₂ a b ≡ J.Free
