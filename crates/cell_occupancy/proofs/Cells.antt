@@ -8,11 +8,12 @@ use lib.IntN.{ℤ, pos}
 use lib.Signed.{ltZ, _≤ℤ_, _<ℤ_}
 use Rattle.signed.proofs.Laws.{signed, g-lt-true, g-lt-false}
 use Rattle.intervals.proofs.Line.{Test, yea, nay, test, no-both}
+use Rattle.intervals.proofs.Tracks.{same-yes}
 use Rattle.intervals.specs.Records.{Rec, rec, same, between, behind, follows}
 use Rattle.intervals.proofs.Grid.{and-l, and-r, and₃}
 use Rattle.intervals.specs.OverInt.{ok, keeps, cellOf}
 use Rattle.intervals.specs.Lists.{inGrid, allIn, rules}
-use Rattle.cell_occupancy.proofs.ByIndex.{in-is}
+use Rattle.intervals.proofs.Lists.{in-is}
 
 -- ---- each record by itself
 
@@ -65,14 +66,6 @@ has-cell {t} {c} {d} p (more {t = u} {c = x} {d = y} {s = v} {rs = rs} a b e w) 
     go (yea q) r = λ z. b (rw q at z)
     go (nay q) r = λ z. r (rw q at z)
 
-pub same-eq : (x y : ℤ) → same ltZ x y ≡ true → x ≡ y
-same-eq x y h = go (test (ltZ x y)) (test (ltZ y x))
-  where
-    go : Test (ltZ x y) → Test (ltZ y x) → x ≡ y
-    go (yea e) f = no-both h (rw e)
-    go (nay e) (yea f) = no-both h (rw (e, f))
-    go (nay e) (nay f) = omega signed
-
 pub between-is : (a b p : ℤ) → between ltZ a b p ≡ true → (a ≤ℤ p) × (p <ℤ b)
 between-is a b p h = go (test (ltZ p a)) (test (ltZ p b))
   where
@@ -92,7 +85,7 @@ cell (rec u c d s ∷ rs) t p = go (test (same ltZ t u && between ltZ c d p)) (c
   where
     go : Test (same ltZ t u && between ltZ c d p) → Cell rs t p → Cell (rec u c d s ∷ rs) t p
     go (yea e) r =
-        let q : u ≡ t = sym (same-eq t u (and-l (same ltZ t u) (between ltZ c d p) e)) in
+        let q : u ≡ t = sym (same-yes t u (and-l (same ltZ t u) (between ltZ c d p) e)) in
         let b = between-is c d p (and-r (same ltZ t u) (between ltZ c d p) e) in
         filled c d (subst (λ (x : ℤ). Has x c d (rec u c d s ∷ rs)) q here) (b .0) (b .1)
     go (nay e) (empty z) = empty (rw e z)

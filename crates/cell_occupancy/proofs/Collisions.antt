@@ -9,19 +9,20 @@ use lib.IntN.{ℤ, pos, _+ℤ_, _-ℤ_}
 use lib.Signed.{ltZ, _≤ℤ_, _<ℤ_}
 use Rattle.signed.proofs.Laws.{signed, sum, dif, g-lt-true, g-lt-false}
 use Rattle.intervals.proofs.Line.{Test, yea, nay, test, no-both}
+use Rattle.intervals.proofs.Tracks.{same-yes}
 use Rattle.intervals.specs.Records.{Rec, rec, same}
 use Rattle.intervals.proofs.Grid.{and-l, and-r}
 use Rattle.intervals.proofs.Paint.{mem}
 use Rattle.intervals.specs.OverInt.{cellOf, span}
 use Rattle.intervals.proofs.OverInt.{span-is}
-use Rattle.intervals.specs.Lists.{rules, onTrack}
+use Rattle.intervals.specs.Lists.{rules, onTrack, Free}
 use Rattle.cell_occupancy.specs.Calls.{overlaps, orElse, extentOf, larger, over, collisionJump}
 use Rattle.cell_occupancy.specs.declared.jumps.Extent.{Extent}
 use Rattle.cell_occupancy.specs.declared.jumps.Extent.the-variants as X
 use Rattle.cell_occupancy.specs.declared.jumps.Jump.{Jump}
 use Rattle.cell_occupancy.specs.declared.jumps.Jump.the-variants as J
-use Rattle.cell_occupancy.specs.Meaning.{IsFree, Taken, Collides}
-use Rattle.cell_occupancy.proofs.Cells.{sound, Has, here, there, has-order, has-cell, same-eq, between-is, Cell, empty, filled, cell}
+use Rattle.cell_occupancy.specs.Meaning.{Taken, Collides}
+use Rattle.cell_occupancy.proofs.Cells.{sound, Has, here, there, has-order, has-cell, between-is, Cell, empty, filled, cell}
 
 -- ---- the extent on a track
 
@@ -66,7 +67,7 @@ extent-last (rec u c d s ∷ rs) t a b e h = go (test (same ltZ t u)) (λ k. ext
         by (inr k) =
             let x = if-ends (overlaps a b c d) d e (k .1) in
             let o = overlap-is a b c d (x .0) in
-            let v : u ≡ t = sym (same-eq t u q) in
+            let v : u ≡ t = sym (same-yes t u q) in
             record { from = c; has = subst (λ (w : ℤ). Has t c w (rec u c d s ∷ rs)) (x .1) (subst (λ (w : ℤ). Has w c d (rec u c d s ∷ rs)) v here); before = o .0; past = let y = o .1 in let w = x .1 in omega signed }
 
 -- no record of the track overlaps
@@ -105,7 +106,7 @@ module _ (F : ℤ → Extent) where
   over-free t (u ∷ ts) h m = go (test (same ltZ t u)) (larger-free (F u) (over step ts) h) (λ k j. over-free t ts k j)
     where
       go : Test (same ltZ t u) → (F u ≡ X.Free) × (over step ts ≡ J.Free) → (over step ts ≡ J.Free → mem ltZ t ts ≡ true → F t ≡ X.Free) → F t ≡ X.Free
-      go (yea q) k r = ap F (same-eq t u q) ∙ k .0
+      go (yea q) k r = ap F (same-yes t u q) ∙ k .0
       go (nay q) k r = r (k .1) (rw q at m)
 
   pub record Where (ts : List ℤ) (e : ℤ) : Type 0 where
@@ -161,10 +162,10 @@ module _ (rs : List (Rec ℤ)) (h : rules rs ≡ true) (t₁ t₂ a b : ℤ) whe
         again = λ p x y. taken (w .track) e p (p +ℤ (b -ℤ a)) (r .0) (r .1) m y (omega (signed, sum p (b -ℤ a), dif b a)) (omega (signed, sum p (b -ℤ a), dif b a));
       }
 
-  pub jump-free : a <ℤ b → collisionJump rs t₁ t₂ a b ≡ J.Free ↔ IsFree rs t₁ t₂ a b
+  pub jump-free : a <ℤ b → collisionJump rs t₁ t₂ a b ≡ J.Free ↔ Free rs t₁ t₂ a b
   jump-free ab = (there-is, back-is)
     where
-      there-is : collisionJump rs t₁ t₂ a b ≡ J.Free → IsFree rs t₁ t₂ a b
+      there-is : collisionJump rs t₁ t₂ a b ≡ J.Free → Free rs t₁ t₂ a b
       there-is f t p l u x y = go (cell rs t p)
         where
           m : mem ltZ t (span t₁ t₂) ≡ true
@@ -175,7 +176,7 @@ module _ (rs : List (Rec ℤ)) (h : rules rs ≡ true) (t₁ t₂ a b : ℤ) whe
           go (filled c d k v w) =
               no-both (rw (g-lt-true c b (omega signed), g-lt-true a d (omega signed))) (extent-free a b k (over-free (λ t. extentOf (onTrack t rs) a b) t (span t₁ t₂) f m))
 
-      back-is : IsFree rs t₁ t₂ a b → collisionJump rs t₁ t₂ a b ≡ J.Free
+      back-is : Free rs t₁ t₂ a b → collisionJump rs t₁ t₂ a b ≡ J.Free
       back-is z = go (shape (collisionJump rs t₁ t₂ a b))
         where
           go : Shape (collisionJump rs t₁ t₂ a b) → collisionJump rs t₁ t₂ a b ≡ J.Free

@@ -24,7 +24,7 @@ use Rattle.cell_occupancy.specs.declared.jumps.Extent.{Extent}
 use Rattle.cell_occupancy.specs.declared.jumps.Extent.the-variants as X
 use Rattle.cell_occupancy.specs.declared.jumps.Jump.{Jump}
 use Rattle.cell_occupancy.specs.declared.jumps.Jump.the-variants as J
-use Rattle.cell_occupancy.proofs.ByIndex.{recs-enc}
+use Rattle.intervals.proofs.Lists.{recs-enc}
 use Rattle.cell_occupancy.proofs.Sorted.{sorted, none-on, not-same, not-same₂, is-same, cut-is}
 use Rattle.intervals.proofs.Spans.{span-none, span-cons}
 use Rattle.cell_occupancy.proofs.Over.{skip-front, skip-back, all-free}

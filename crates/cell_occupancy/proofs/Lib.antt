@@ -1,7 +1,7 @@
 pub mod ByIndex
+pub mod Turns
 pub mod Sorted
 pub mod Named
-pub mod Laid
 pub mod Standing
 pub mod Over
 pub mod LastOverlap

@@ -11,6 +11,7 @@ use lib.Signed.{ltZ, _≤ℤ_, _<ℤ_}
 use Rattle.signed.specs.Parts.{gap}
 use Rattle.signed.proofs.Laws.{signed, sum, g-lt-false}
 use Rattle.intervals.proofs.Line.{Test, yea, nay, test}
+use Rattle.intervals.proofs.Tracks.{same-yes}
 use Rattle.intervals.specs.Records.{Rec, rec, same}
 use Rattle.intervals.specs.OverInt.{cellOf, span}
 use Rattle.intervals.specs.Lists.{rules, onTrack}
@@ -18,7 +19,7 @@ use Rattle.cell_occupancy.specs.Calls.{over, orNext, pastTrack, occupied
 use Rattle.cell_occupancy.specs.declared.jumps.Jump.{Jump}
 use Rattle.cell_occupancy.specs.declared.jumps.Jump.the-variants as J
 use Rattle.intervals.proofs.Spans.{span-none, span-cons}
-use Rattle.cell_occupancy.proofs.Cells.{Has, here, there, Cell, empty, filled, cell, sound, has-order, has-cell, same-eq}
+use Rattle.cell_occupancy.proofs.Cells.{Has, here, there, Cell, empty, filled, cell, sound, has-order, has-cell}
 use Rattle.cell_occupancy.specs.Meaning.{IsClear, LastTrack}
 
 -- a track has a record, or none
@@ -31,7 +32,7 @@ on [] t = clear refl refl
 on (rec u c d s ∷ rs) t = go (test (same ltZ t u)) (on rs t)
   where
     go : Test (same ltZ t u) → On rs t → On (rec u c d s ∷ rs) t
-    go (yea e) r = some c d (subst (λ (x : ℤ). Has x c d (rec u c d s ∷ rs)) (sym (same-eq t u e)) here) (rw e)
+    go (yea e) r = some c d (subst (λ (x : ℤ). Has x c d (rec u c d s ∷ rs)) (sym (same-yes t u e)) here) (rw e)
     go (nay e) (clear x y) = clear (rw e x) (rw e y)
     go (nay e) (some x y m z) = some x y (there m) (rw e z)
 

@@ -9,29 +9,28 @@ use lib.IntN.{ℤ}
 use lib.Signed.{_<ℤ_}
 use Rattle.intervals.specs.Records.{Rec}
 use Rattle.intervals.specs.OverInt.{flat}
-use Rattle.intervals.specs.Lists.{rules, recs}
-use Rattle.cell_occupancy.specs.Calls.{keptOf, collisionJump, occupiedJump}
+use Rattle.intervals.specs.Lists.{rules, recs, Free}
+use Rattle.cell_occupancy.specs.Calls.{keptOf, collisionJump, occupiedJump, Stands}
 use Rattle.cell_occupancy.specs.declared.rules.Used.the-variants.{Records}
 use Rattle.cell_occupancy.specs.declared.jumps.Jump.the-variants as J
-use Rattle.cell_occupancy.proofs.ByIndex.{length-recs, recs-enc}
-use Rattle.cell_occupancy.proofs.Named.{kept-holds, holds-kept}
-use Rattle.cell_occupancy.specs.Calls.{Stands}
-use Rattle.cell_occupancy.specs.Meaning.{IsFlatOf, IsFree, Collides, IsClear, LastTrack}
+use Rattle.intervals.proofs.Lists.{length-recs, recs-enc}
+use Rattle.cell_occupancy.proofs.Named.{records-holds, holds-records}
+use Rattle.cell_occupancy.specs.Meaning.{IsFlatOf, Collides, IsClear, LastTrack}
 use Rattle.cell_occupancy.proofs.Collisions.{jump-free, jump-next}
 use Rattle.cell_occupancy.proofs.Occupied.{clear-jump, last-jump}
 
 -- "a list that breaks the list rules": the answer is n exactly for the flat lists of n records that keep the rules
 pub kept-exactly : (l : List ℤ) (n : ℕ) → keptOf l ≡ Records n ↔ IsFlatOf l n
 kept-exactly l n = (
-  (λ e. let h = kept-holds e in record { records = recs n l; count = length-recs n l; keep = h .keep; laid = h .laid }),
+  (λ e. let h = records-holds e in record { records = recs n l; count = length-recs n l; keep = h .keep; laid = h .laid }),
   (λ f.
       let rs = f .records in
       let q : recs n l ≡ rs = (λ i. recs (sym (f .count) i) (f .laid i)) ∙ recs-enc rs _ in
-      holds-kept (record { keep = ap rules q ∙ f .keep; laid = f .laid ∙ ap (flat (length l)) (sym q) })),
+      holds-records (record { keep = ap rules q ∙ f .keep; laid = f .laid ∙ ap (flat (length l)) (sym q) })),
 )
 
 -- "Collision jump: none if free": exactly when no cell of the area has a state
-pub none-if-free : (rs : List (Rec ℤ)) → rules rs ≡ true → (t₁ t₂ a b : ℤ) → a <ℤ b → collisionJump rs t₁ t₂ a b ≡ J.Free ↔ IsFree rs t₁ t₂ a b
+pub none-if-free : (rs : List (Rec ℤ)) → rules rs ≡ true → (t₁ t₂ a b : ℤ) → a <ℤ b → collisionJump rs t₁ t₂ a b ≡ J.Free ↔ Free rs t₁ t₂ a b
 none-if-free = jump-free
 
 -- "else the largest, over the crossed tracks, of the end of the last overlapping record": a search may go on there, since every area as wide that

@@ -1,4 +1,4 @@
--- startNo list that keeps the rules is sorted by track, so the records of one track are a part of it.
+-- A list that keeps the rules is sorted by track, so the records of one track are a part of it.
 use mathlib.Core.Path.{_≡_, refl, sym, ap, _∙_}
 use mathlib.Core.Bool.{true, false}
 use mathlib.Core.List.{List, [], _∷_, _++_, append-nil}

@@ -14,7 +14,7 @@ use Rattle.intervals.specs.OverInt.{encode, decode}
 use Rattle.intervals.specs.Lists.{recs, onTrack, Holds}
 use Rattle.cell_occupancy.specs.Calls.{before, startOf, Stands}
 use Rattle.cell_occupancy.specs.Inner.{trackNo, startNo, endNo, stateNo, Split, Part}
-use Rattle.cell_occupancy.proofs.ByIndex.{holds-room, holds-decode}
+use Rattle.intervals.proofs.Lists.{holds-room, holds-decode}
 use Rattle.cell_occupancy.proofs.Sorted.{cut-is}
 
 before-rows : (x : ℤ) (n p : ℕ) (t a b : ℕ → ℤ) (s : ℕ → ℕ) → p ≤ n → ((k : ℕ) → k < p → t k <ℤ x) → ((k : ℕ) → p ≤ k → k < n → x ≤ℤ t k) → before x (rows n t a b s) ≡ p

@@ -38,7 +38,7 @@ pub record Good (t a b s : ℤ) : Type 0 where
   pub s-lo : pos 1 ≤ℤ s
   pub s-hi : s ≤ℤ pos 2
 
--- a record on track u from c with state v may stand behind one on track t to b with state s
+-- a record on track u from c with state v may stand behind one on track t to b with state s: the states as they stand in the list
 abbrev pub mayFollow : ℤ → ℤ → ℤ → ℤ → ℤ → ℤ → Bool
 mayFollow t b s u c v = ltZ t u || (same ltZ t u && (ltZ b c || (same ltZ b c && not (same ltZ s v))))
 

@@ -18,10 +18,6 @@ pub record IsFlatOf (l : List ℤ) (n : ℕ) : Type 0 where
   pub keep : rules records ≡ true
   pub laid : l ≡ flat (length l) records
 
--- "Free means that no cell of the area has a state": the tracks t₁..t₂, the lines a..b
-abbrev pub IsFree : List (Rec ℤ) → ℤ → ℤ → ℤ → ℤ → Type 0
-IsFree rs t₁ t₂ a b = (t p : ℤ) → t₁ ≤ℤ t → t <ℤ t₂ → a ≤ℤ p → p <ℤ b → cellOf rs t p ≡ 0
-
 -- an area that has a cell with a state
 pub record Taken (rs : List (Rec ℤ)) (t₁ t₂ a b : ℤ) : Type 0 where
   pub track : ℤ

@@ -116,7 +116,7 @@ pub fn first_free(
 ) -> i16
     requires { ⌜ Holds (now list) used ⌝ }
     requires { ⌜ «track_start» <ℤ «track_end» ⌝ }
-    requires { ⌜ (pos 1 ≤ℤ span) × ((span ≤ℤ pos 10000) × (start ≤ℤ pos 20000)) ⌝ }
+    requires { ⌜ (pos 1 ≤ℤ span) × ((span ≤ℤ pos 10000) × (start ≤ℤ pos 22000)) ⌝ }
     ensures { λ r. ⌜ collisionJump (recs used (now (list .entry))) «track_start» «track_end» r (r +ℤ span) ≡ J.Free ⌝ }
     ensures { λ r. ⌜ Searched (recs used (now (list .entry))) «track_start» «track_end» start span r ⌝ }
 {

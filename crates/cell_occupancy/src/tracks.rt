@@ -17,6 +17,13 @@ pub struct Place {
     pub length: usize,
 }
 
+impl Place {
+    const NOWHERE: Place = Place {
+        start: 0,
+        length: 0,
+    };
+}
+
 // The first record from `from` on whose track is not below x, by halving. x is wide enough for the track behind any track.
 pub fn lower(list: &[i16], from: usize, used: usize, x: i32) -> usize
     requires { ⌜ Front (now list) used ⌝ }
@@ -60,10 +67,7 @@ fn place_in(list: &[i16], used: usize, track: i16) -> Place
     let a = lower(list, 0, used, x);
     let b = lower(list, a, used, x + 1);
     if a == b {
-        return Place {
-            start: 0,
-            length: 0,
-        };
+        return Place::NOWHERE;
     }
     Place {
         start: 4 * a,
@@ -88,22 +92,13 @@ fn place_or_none(list: &[i16], track: i16) -> Place
     ensures { λ r. ⌜ Stands (now (list .entry)) track (trackOf (now (list .entry)) track) (r .start) (r .length) ⌝ }
 {
     if list.len() % 4 != 0 {
-        return Place {
-            start: 0,
-            length: 0,
-        };
+        return Place::NOWHERE;
     }
     if 1048576 < list.len() {
-        return Place {
-            start: 0,
-            length: 0,
-        };
+        return Place::NOWHERE;
     }
     let Used::Records(used) = kept(list) else {
-        return Place {
-            start: 0,
-            length: 0,
-        };
+        return Place::NOWHERE;
     };
     place_in(list, used, track)
 }
@@ -141,8 +136,5 @@ pub fn track_place(rows: &[i16], cols: &[i16], axis: u8, track: i16) -> Place
     if axis == 1 {
         return place_or_none(rows, track);
     }
-    Place {
-        start: 0,
-        length: 0,
-    }
+    Place::NOWHERE
 }

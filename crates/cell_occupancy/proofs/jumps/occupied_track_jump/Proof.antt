@@ -8,7 +8,8 @@ use mir.Val.{toZ, ofZ}
 use Rattle.signed.proofs.Laws.{signed}
 use Rattle.cell_occupancy.specs.Inner.{trackNo, Split}
 use Rattle.cell_occupancy.specs.declared.jumps.Jump.the-variants.{Next}
-use Rattle.cell_occupancy.proofs.ByIndex.{holds-front, holds-room}
+use Rattle.intervals.proofs.Lists.{holds-room}
+use Rattle.cell_occupancy.proofs.ByIndex.{holds-front}
 use Rattle.cell_occupancy.proofs.Sorted.{sorted}
 use Rattle.cell_occupancy.proofs.Crossed.{occupied-none, occupied-some}
 use borrow.Author.Needs.{needs}

@@ -5,7 +5,7 @@ use native.Mathlib.Omega.{arith}
 use borrow.Author.Needs.{needs}
 use lib.ListN.{length}
 use Rattle.cell_occupancy.specs.Inner.{Goes, Front}
-use Rattle.cell_occupancy.proofs.ByIndex.{front-none, front-more, says-past, says-not}
+use Rattle.cell_occupancy.proofs.Turns.{front-none, front-more, says-past, says-not}
 use Rattle.cell_occupancy.proofs.rules.front.Statement.{statement}
 use Rattle.cell_occupancy.proofs.rules.front.Tie as tie
 

@@ -9,7 +9,7 @@ use lib.IntN.{ℤ, pos}
 use mir.Syntax.{w16}
 use mir.Val.{ofZ}
 use Rattle.signed.proofs.Laws.{fit16, same}
-use Rattle.cell_occupancy.proofs.ByIndex.{zero-more}
+use Rattle.cell_occupancy.proofs.Turns.{zero-more}
 use Rattle.cell_occupancy.proofs.rules.zeros.Statement.{statement}
 use Rattle.cell_occupancy.proofs.rules.zeros.Tie as tie
 

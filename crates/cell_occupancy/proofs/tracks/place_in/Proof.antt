@@ -7,7 +7,8 @@ use mir.Syntax.{w16, w32}
 use mir.Val.{toZ, ofZ}
 use Rattle.signed.proofs.Laws.{signed, rng}
 use Rattle.cell_occupancy.specs.Inner.{Split}
-use Rattle.cell_occupancy.proofs.ByIndex.{holds-front, holds-room}
+use Rattle.intervals.proofs.Lists.{holds-room}
+use Rattle.cell_occupancy.proofs.ByIndex.{holds-front}
 use Rattle.cell_occupancy.proofs.Standing.{part-at, stands-empty, stands-some}
 use borrow.Author.Needs.{needs}
 use Rattle.cell_occupancy.proofs.tracks.place_in.Statement.{statement}

@@ -4,7 +4,7 @@ use mathlib.Core.List.{List}
 use lib.IntN.{ℤ}
 use mir.Facts.{toZ-ofZ}
 use Rattle.cell_occupancy.specs.Calls.{Stands}
-use Rattle.cell_occupancy.proofs.Named.{kept-holds, no-four, too-long, part-none, part-some}
+use Rattle.cell_occupancy.proofs.Named.{records-holds, no-four, too-long, part-none, part-some}
 use Rattle.cell_occupancy.proofs.Standing.{stands-none}
 use borrow.Author.Needs.{needs}
 use Rattle.cell_occupancy.proofs.tracks.place_or_none.Statement.{statement}
@@ -34,7 +34,7 @@ returns-3 c =
 place-in-requires : tie.Need-place-in-requires
 place-in-requires c κs =
     let k = c .before .before .before in
-    kept-holds (sym (k .kept .ensures) ∙ c .before .used .given .1)
+    records-holds (sym (k .kept .ensures) ∙ c .before .used .given .1)
 
 returns-4 : tie.Need-returns-4
 returns-4 c =
