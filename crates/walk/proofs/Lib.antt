@@ -11,6 +11,7 @@ pub mod OnLists
 pub mod Loops
 pub mod Ends
 pub mod Ruled
+pub mod Origins
 pub mod Promises
 pub mod Boards
 mod Limits

@@ -13,7 +13,7 @@ use Rattle.walk.specs.Walk.{Queued, Board, Setting, Choice, Run, going, 
 use Rattle.walk.specs.Rules.{Rule, Rule1, Rule2, Rule4, takes, finds, finds-line, finds-pair, lays-untested, mine1, mine2, mine4, Turn, passes, lays, full7, full8, Through, done, goes, stops, Walked, stops1, stops2, ends}
 use Rattle.walk.proofs.Tests.{clash}
 use Rattle.walk.proofs.FreeLaws.{Tiled, choose1-rule, choose2-rule, chooseLine-rule, choosePair-rule, rule1-only, rule2-only, rule4-line-only, rule4-pair-only}
-use Rattle.walk.proofs.WalkLaws.{Kept, Growing, kept-step1, kept-step2, kept-step4, kept-begin4, stay, never, each-keeps, anyone}
+use Rattle.walk.proofs.WalkLaws.{Kept, Growing, kept-step1, kept-step2, kept-step4, kept-begin4, kept1, kept2}
 use Rattle.walk.proofs.Loops.{each-next, each-stop}
 
 -- ---- one item
@@ -149,12 +149,6 @@ module _ (w : Setting) (qs : List Queued) where
   each-only4 : (once : Place) {t : Board} {r : Run} → Kept t → Through w mine4 (Rule4 w once) qs t r → each w (step4 w once) qs t ≡ r
   each-only4 once k d = each-only w mine4 (Rule4 w once) (step4 w once) (kept-step4 w once) (λ i x h p s. turn4 w i x (h .tiles) once p s) (λ i x h p s r d. only4 w i x (h .tiles) once p s r d) k d
 
-  kept1 : (t b : Board) → Kept t → each w (step1 w) qs t ≡ going b → Kept b
-  kept1 t b k e = each-keeps w (step1 w) (λ _ _ _. Unit {0}) (λ _ x. Kept x) (λ _ i p s x y _ h f. kept-step1 w i p s x y h f) qs 0 t b (anyone qs) k e
-
-  kept2 : (t b : Board) → Kept t → each w (step2 w) qs t ≡ going b → Kept b
-  kept2 t b k e = each-keeps w (step2 w) (λ _ _ _. Unit {0}) (λ _ x. Kept x) (λ _ i p s x y _ h f. kept-step2 w i p s x y h f) qs 0 t b (anyone qs) k e
-
   module _ (growth : Both TrackCounts → Both TrackCounts) (G : Growing growth) (t : Board) (k : Kept t) where
     -- THE WALK KEEPS THE RULES
     pub walk-ruled : Walked w growth qs t (walk w growth qs t)
@@ -163,12 +157,12 @@ module _ (w : Setting) (qs : List Queued) where
       where
         go₂ : (b₁ : Board) → Through w mine1 (Rule1 w) qs t (going b₁) → (r : Run) → Kept b₁ → each w (step2 w) qs b₁ ≡ r → Through w mine2 (Rule2 w) qs b₁ r
             → Walked w growth qs t (andThen r (λ b₂. last4 w qs (begin4 w growth b₂)))
-        go₂ b₁ d₁ (going b₂) k₁ e d = ends d₁ d (through4 (begin4 w growth b₂ .cursor) (begin4 w growth b₂) (kept-begin4 w growth G qs b₂ (kept2 b₁ b₂ k₁ e)))
+        go₂ b₁ d₁ (going b₂) k₁ e d = ends d₁ d (through4 (begin4 w growth b₂ .cursor) (begin4 w growth b₂) (kept-begin4 w growth G qs b₂ (kept2 w qs b₁ b₂ k₁ e)))
         go₂ b₁ d₁ (stopped n i) k₁ e d = stops2 d₁ d
 
         go : (r : Run) → each w (step1 w) qs t ≡ r → Through w mine1 (Rule1 w) qs t r
             → Walked w growth qs t (andThen r (λ b₁. andThen (each w (step2 w) qs b₁) (λ b₂. last4 w qs (begin4 w growth b₂))))
-        go (going b₁) e d = let k₁ = kept1 t b₁ k e in go₂ b₁ d (each w (step2 w) qs b₁) k₁ refl (through2 b₁ k₁)
+        go (going b₁) e d = let k₁ = kept1 w qs t b₁ k e in go₂ b₁ d (each w (step2 w) qs b₁) k₁ refl (through2 b₁ k₁)
         go (stopped n i) e d = stops1 d
 
     -- AND NOTHING ELSE DOES
@@ -177,10 +171,10 @@ module _ (w : Setting) (qs : List Queued) where
     walk-only (stops1 d) = rw (each-only1 k d)
     walk-only (stops2 {b₁} d₁ d₂) =
         let e₁ = each-only1 k d₁ in
-        rw (e₁, each-only2 (kept1 t b₁ k e₁) d₂)
+        rw (e₁, each-only2 (kept1 w qs t b₁ k e₁) d₂)
     walk-only (ends {b₁} {b₂} d₁ d₂ d₄) =
         let e₁ = each-only1 k d₁ in
-        let k₁ = kept1 t b₁ k e₁ in
+        let k₁ = kept1 w qs t b₁ k e₁ in
         let e₂ = each-only2 k₁ d₂ in
-        let k₂ = kept-begin4 w growth G qs b₂ (kept2 b₁ b₂ k₁ e₂) in
+        let k₂ = kept-begin4 w growth G qs b₂ (kept2 w qs b₁ b₂ k₁ e₂) in
         rw (e₁, e₂, each-only4 (begin4 w growth b₂ .cursor) k₂ d₄)

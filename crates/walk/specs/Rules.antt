@@ -76,6 +76,18 @@ pub data Rule4 (w : Setting) (once : Place) (t : Board) : Placement → Placemen
   lays-untested : {n m : ℕ} → overwide n (on (w .axis) (t .counts)) ≡ true
       → Rule4 w once t (Spanned n) (Spanned m) (record { area = laid (w .axis) (from (untested w t .primary) n) (from (untested w t .secondary) m); step = 4; state = w .autoState; flags = 4; cursor = moved w once (from (untested w t .primary) n) (from (untested w t .secondary) m) })
 
+-- "overwide": neither axis is fixed, and the primary span does not fit
+abbrev pub wide : Setting → Board → Placement → Placement → Bool
+wide w t (Fixed p) s = false
+wide w t (Spanned n) (Fixed s) = false
+wide w t (Spanned n) (Spanned m) = overwide n (on (w .axis) (t .counts))
+
+-- by one of the three steps
+pub data Settled (w : Setting) (once : Place) (t : Board) (p s : Placement) (h : Choice) : Type 0 where
+  by1 : Rule1 w t p s h → Settled w once t p s h
+  by2 : Rule2 w t p s h → Settled w once t p s h
+  by4 : Rule4 w once t p s h → Settled w once t p s h
+
 -- ---- one item in one step: it is another step's; or its tile is laid and there is room; or there is none, and the run ends with 7 or 8 and its index
 
 pub data Turn (w : Setting) (mine : Placement → Placement → Bool) (R : Rule) (i : ℕ) (p s : Placement) (t : Board) : Run → Type 0 where
