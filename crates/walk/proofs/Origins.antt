@@ -5,14 +5,17 @@ use mathlib.Core.List.{List, [], _∷_}
 use Prim.Native.Nat.{ℕ, _+_, _/_, _%_}
 use native.Mathlib.Omega.{arith}
 use lib.Dec.{eqb}
+use Rattle.coordinates.specs.declared.Lines.{Lines}
+use Rattle.coordinates.specs.Line.{limited}
 use Rattle.grid_track_counts.specs.declared.TrackCounts.{TrackCounts}
 use Rattle.walk.specs.declared.Placement.{Placement}
-use Rattle.walk.specs.Axis.{other, Both, on, pressedArea}
+use Rattle.walk.specs.declared.Placement.the-variants.{Fixed}
+use Rattle.walk.specs.Axis.{Axis, col, row, other, Both, on, laid, limitedArea, pressedArea}
 use Rattle.walk.specs.Search.{Place}
-use Rattle.walk.specs.Walk.{Queued, Tile, Board, Setting, Choice, Run, going, bit, tileOf, laidOn, step1, step2, step4, andThen, each, begin4, last4, walk}
-use Rattle.walk.specs.Rules.{Rule, Rule1, Rule2, Rule4, takes, finds, finds-line, finds-pair, lays-untested, mine1, mine2, mine4, wide, Settled, by1, by2, by4, Turn, passes, lays, full7, full8}
+use Rattle.walk.specs.Walk.{Item, Queued, Tile, Board, Setting, Choice, Run, going, stopped, bit, free, short, tileOf, laidOn, step1, step2, step4, andThen, each, begin4, last4, walk}
+use Rattle.walk.specs.Rules.{Rule, Rule1, Rule2, Rule4, takes, finds, finds-line, finds-pair, lays-untested, mine1, mine2, mine4, wide, Settled, by1, by2, by4, Turn, passes, lays, full7, full8, Through, done, goes, stops, Walked, stops1, stops2, ends}
 use Rattle.walk.proofs.Tests.{Every, nil, more, Mem, top, under}
-use Rattle.walk.proofs.WalkLaws.{Kept, Least, least-none, least-laid, no-growth, kept-step1, kept-step2, kept-step4, kept-begin4, stay, never, Went, went, each-keeps}
+use Rattle.walk.proofs.WalkLaws.{Clear, next, Kept, Least, least-none, least-laid, no-growth, kept-step1, kept-step2, kept-step4, kept-begin4, stay, never, Went, went, each-keeps}
 use Rattle.walk.proofs.Ruled.{turn1, turn2, turn4}
 
 -- ---- the mark: "the sum of 1 pressed (limiting changed a line), 2 both axes fixed, 4 overwide"
@@ -133,3 +136,73 @@ walk-origins w qs t b z k e = (c .cursor, s₄ .origins)
 
     s₄ : S b
     s₄ = each-keeps w (step4 w (c .cursor)) (Of w qs) (λ _ x. S x) (λ _ i p s x y o h f. so4 w (c .cursor) (t .counts) qs i p s x y o h f) qs 0 c b (every-of w qs qs (λ q m. m)) s₃ (u .second)
+
+-- ---- of one tile
+
+-- ts are the tiles that were laid before x
+pub data Before (x : Tile) (ts : List Tile) : List Tile → Type 0 where
+  last : Before x ts (x ∷ ts)
+  earlier : {y : Tile} {us : List Tile} → Before x ts us → Before x ts (y ∷ us)
+
+pub origin-of : {w : Setting} {once : Place} {c₀ : Both TrackCounts} {qs : List Queued} {x : Tile} {ts us : List Tile} → Origins w once c₀ qs us → Before x ts us → Origin w once c₀ qs x ts
+origin-of (after o os) last = o
+origin-of (after o os) (earlier m) = origin-of os m
+
+pub clear-of : {x : Tile} {ts us : List Tile} → Clear us → Before x ts us → x .mark ≡ 0 → free ts (x .area) ≡ true
+clear-of (next f c) last = f
+clear-of (next f c) (earlier m) = clear-of c m
+
+-- "Items fixed in both axes take their lines", limited
+settled-fixed : {w : Setting} {once : Place} {t : Board} {p s : Lines} {h : Choice} → Settled w once t (Fixed p) (Fixed s) h → h .area ≡ laid (w .axis) p s
+settled-fixed (by1 takes) = refl
+
+pub fixed-takes : {w : Setting} {once : Place} {c₀ : Both TrackCounts} {qs : List Queued} {x : Tile} {ts : List Tile} (o : Origin w once c₀ qs x ts) (c d : Lines)
+    → o .item .item ≡ record { columns = Fixed c; rows = Fixed d } → x .area ≡ record { columns = limited c; rows = limited d }
+unfolding tileOf
+fixed-takes {w} {once} o c d e =
+    ap (λ (y : Tile). y .area) (o .tile)
+    ∙ ap limitedArea (go (w .axis) refl (subst (λ (y : Item). Settled w once (o .before) (on (w .axis) y) (on (other (w .axis)) y) (o .choice)) e (o .settled)))
+  where
+    go : (a : Axis) → w .axis ≡ a → Settled w once (o .before) (on a (record { columns = Fixed c; rows = Fixed d })) (on (other a) (record { columns = Fixed c; rows = Fixed d })) (o .choice) → o .choice .area ≡ record { columns = c; rows = d }
+    go col i k = settled-fixed k ∙ rw i
+    go row i k = settled-fixed k ∙ rw i
+
+-- ---- a run that stops: at an item whose tile, laid by its step's rule, needs more records than a list has places
+
+-- "7 before 8"
+pub data Short (w : Setting) (b : Board) : ℕ → Type 0 where
+  in-rows : short w row b ≡ true → Short w b 7
+  in-columns : short w row b ≡ false → short w col b ≡ true → Short w b 8
+
+pub record Full (w : Setting) (qs : List Queued) (n i : ℕ) : Type 0 where
+  pub before : Board
+  pub once : Place
+  pub item : Queued
+  pub queued : Mem item qs
+  pub index : item .index ≡ i
+  pub choice : Choice
+  pub settled : Settled w once before (on (w .axis) (item .item)) (on (other (w .axis)) (item .item)) choice
+  pub lacks : Short w (laidOn i choice before) n
+
+full-through : {w : Setting} {once : Place} {mine : Placement → Placement → Bool} {R : Rule} (all : List Queued) → ((t : Board) (p s : Placement) (h : Choice) → R t p s h → Settled w once t p s h)
+    → {qs : List Queued} {t : Board} {r : Run} (n i : ℕ) → ((q : Queued) → Mem q qs → Mem q all) → Through w mine R qs t r → r ≡ stopped n i → Full w all n i
+full-through all by n i f done e = never (sym e)
+full-through all by n i f (goes d rest) e = full-through all by n i (λ q m. f q (under m)) rest e
+full-through {w} {once} {mine} {R} all by n i f (stops {q} {qs} {t} d) e = go d e
+  where
+    go : {r : Run} → Turn w mine R (q .index) (on (w .axis) (q .item)) (on (other (w .axis)) (q .item)) t r → r ≡ stopped n i → Full w all n i
+    go (passes m) z = never (sym z)
+    go (lays h k x y) z = never (sym z)
+    go (full7 h k x) z =
+        let n₇ : 7 ≡ n = cc in
+        let j : q .index ≡ i = cc in
+        record { before = t; once = once; item = q; queued = f q top; index = j; choice = h; settled = by t (on (w .axis) (q .item)) (on (other (w .axis)) (q .item)) h k; lacks = rw (← j, ← n₇) (in-rows x) }
+    go (full8 h k x y) z =
+        let n₈ : 8 ≡ n = cc in
+        let j : q .index ≡ i = cc in
+        record { before = t; once = once; item = q; queued = f q top; index = j; choice = h; settled = by t (on (w .axis) (q .item)) (on (other (w .axis)) (q .item)) h k; lacks = rw (← j, ← n₈) (in-columns x y) }
+
+pub walked-full : {w : Setting} {growth : Both TrackCounts → Both TrackCounts} (qs : List Queued) {t : Board} {r : Run} (n i : ℕ) → Walked w growth qs t r → r ≡ stopped n i → Full w qs n i
+walked-full qs {t} n i (stops1 d) e = full-through {once = t .cursor} qs (λ _ _ _ _ k. by1 k) n i (λ q m. m) d e
+walked-full qs {t} n i (stops2 d₁ d₂) e = full-through {once = t .cursor} qs (λ _ _ _ _ k. by2 k) n i (λ q m. m) d₂ e
+walked-full qs n i (ends d₁ d₂ d₄) e = full-through qs (λ _ _ _ _ k. by4 k) n i (λ q m. m) d₄ e

@@ -1,6 +1,6 @@
 -- Every item is placed, the lists have room, and the answers are what is written item by item.
 use mathlib.Core.Path.{_≡_, refl, sym, ap, _∙_}
-use mathlib.Core.Logic.{_≢_}
+use mathlib.Core.Logic.{_≢_, _⊎_, inl, inr}
 use mathlib.Core.Bool.{Bool, true, false, cond}
 use mathlib.Core.List.{List, [], _∷_, _++_, append-assoc}
 use Prim.Native.Nat.{ℕ, zero, suc, _+_, _*_, _≤_, _<_}
@@ -19,7 +19,7 @@ use Rattle.walk.specs.Walk.{Item, Queued, Tile, Board, Setting, Choice, 
 use Rattle.walk.specs.Request.{numbers, answerOf, answersOf, upTo, queue}
 use Rattle.walk.specs.OnList.{written}
 use Rattle.walk.specs.Rules.{mine1, mine2, mine4}
-use Rattle.walk.proofs.Tests.{Every, nil, more, clash}
+use Rattle.walk.proofs.Tests.{Every, nil, more, clash, Mem, which}
 use Rattle.walk.proofs.WalkLaws.{put-going, stay, went, each-keeps, Move, stays, lays, move1, move2, move4, anyone}
 
 -- ---- each item has its tile
@@ -308,3 +308,13 @@ pub queue-length : (n k : ℕ) (xs : List Item) → length (queue (upTo n k) xs)
 unfolding queue upTo
 queue-length zero k xs = refl
 queue-length (suc n) k xs = ap suc (queue-length n (suc k) xs)
+
+-- an item of the queue is the item of its index
+pub queue-item : (is : List ℕ) (xs : List Item) (q : Queued) → Mem q (queue is xs) → q .item ≡ getD xs (q .index) (record { columns = Spanned 1; rows = Spanned 1 })
+unfolding queue
+queue-item (i ∷ is) xs q m = go (which m) (λ k. queue-item is xs q k)
+  where
+    go : (q ≡ record { index = i; item = getD xs i (record { columns = Spanned 1; rows = Spanned 1 }) }) ⊎ Mem q (queue is xs)
+        → (Mem q (queue is xs) → q .item ≡ getD xs (q .index) (record { columns = Spanned 1; rows = Spanned 1 })) → q .item ≡ getD xs (q .index) (record { columns = Spanned 1; rows = Spanned 1 })
+    go (inl e) f = rw e refl
+    go (inr k) f = f k

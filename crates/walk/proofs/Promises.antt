@@ -1,32 +1,40 @@
--- THE PROMISES about a placement run, each under document 01's words. r is a request that passes the checks 1 to 6, b the board that its run ends with.
+-- THE PROMISES about a placement run, each under the words of document 01 that it answers. r is a request; in the last parts it passes the checks 1 to 6,
+-- and b is the board that its run ends with.
 use mathlib.Core.Path.{_≡_, refl, sym, ap, _∙_}
-use mathlib.Core.Logic.{_↔_}
-use mathlib.Core.Bool.{Bool, true, false}
-use mathlib.Core.List.{List, map}
-use mathlib.Core.Option.{none, some}
-use Prim.Native.Nat.{ℕ, _+_, _<_}
+use mathlib.Core.Logic.{_↔_, _⊎_, inl, inr}
+use mathlib.Core.Bool.{Bool, true, false, cond}
+use mathlib.Core.List.{List, [], _∷_, _++_, map}
+use mathlib.Core.Option.{Option, none, some}
+use Prim.Native.Nat.{ℕ, _+_, _*_, _≤_, _<_}
 use native.Mathlib.Omega.{arith}
-use lib.Dec.{eqb}
-use lib.IntN.{ℤ}
-use lib.ListN.{length, length-map}
-use Rattle.signed.proofs.Laws.{signed}
+use borrow.Author.Tests.{eqb-true, eqb-false, ltb-false}
+use lib.Dec.{eqb, ltb}
+use lib.IntN.{ℤ, pos}
+use lib.ListN.{length, drop, replicate, getD, length-map}
+use Rattle.signed.proofs.Laws.{signed, by-test}
+use Rattle.intervals.specs.Records.{Rec}
 use Rattle.intervals.specs.OverInt.{stateAt, cellOf, keeps, ok, flat, digits}
 use Rattle.intervals.proofs.Flat as Fl
-use Rattle.intervals.proofs.OverInt.{digit-laws}
+use Rattle.intervals.proofs.OverInt.{digit-laws, is-painted}
 use Rattle.grid_track_counts.specs.declared.TrackCounts.{TrackCounts}
 use Rattle.grid_track_counts.specs.Counts.{Sound}
+use Rattle.walk.specs.declared.Placement.the-variants.{Spanned}
 use Rattle.walk.specs.Axis.{Axis, col, row, other, Both, on, Extent}
-use Rattle.walk.specs.Walk.{Item, Queued, Tile, Board, Setting, going, stopped, free, recordsOn, step4, each, begin4, walk, laidOn, tileOf}
-use Rattle.walk.specs.Request.{Request, refused, answered, checked, halves, itemOf, itemCount, settingOf, upTo, queue, emptyBoard, runOf, answersOf, told, outcome, answersLeft}
+use Rattle.walk.specs.Search.{Place}
+use Rattle.walk.specs.Walk.{Item, Queued, Tile, Board, Setting, Run, going, stopped, free, tileOf, laidOn, recordsOn, step4, each, begin4, walk}
+use Rattle.walk.specs.Request.{Request, Refusal, Outcome, refused, answered, answerNumbers, checked, halves, badFrom, itemOf, itemCount, settingOf, upTo, queue, emptyBoard, runOf, answersOf, told, outcome, answersLeft, rowsLeft, columnsLeft}
+use Rattle.walk.specs.Rules.{Walked}
 use Rattle.walk.specs.OnList.{written}
-use Rattle.walk.proofs.Tests.{Every, nil, more}
-use Rattle.walk.proofs.LinesLaws.{each-on, GrowsBoth, CoversArea, grows-refl, start-low, start-high}
+use Rattle.walk.proofs.Tests.{Every, nil, more, Mem}
+use Rattle.walk.proofs.LinesLaws.{each-on, GrowsBoth, CoversArea, start-low, start-high}
 use Rattle.walk.proofs.FreeLaws.{Tiled}
-use Rattle.walk.proofs.WalkLaws.{Kept, Clear, no-growth, walk-kept, Least, counts-least, grows-same, WithStates, states-kept, Roomy, walk-roomy, walk-keeps}
+use Rattle.walk.proofs.WalkLaws.{Kept, Clear, no-growth, walk-kept, Least, least-none, counts-least, grows-same, WithStates, states-kept, Roomy, walk-roomy, walk-keeps}
 use Rattle.walk.proofs.Range.{Run4, run4}
-use Rattle.walk.proofs.Cells.{history, Coloured, Cell, Solid, records-keep, records-cell, free-list}
-use Rattle.walk.proofs.Checks.{Passed, checked-none, good-items, good-queue, halves-length}
-use Rattle.walk.proofs.Placed.{Has, walk-has, walk-count, queue-length, written-is, queue-all, queue-below}
+use Rattle.walk.proofs.Cells.{history, Coloured, Cell, Solid, history-fits, records-keep, records-cell, free-cells, free-list}
+use Rattle.walk.proofs.Checks.{Passed, checked-none, checked-low, good-items, good-queue, halves-length}
+use Rattle.walk.proofs.Placed.{Has, walk-has, walk-count, queue-length, written-is, queue-all, queue-below, queue-item}
+use Rattle.walk.proofs.Ruled.{walk-ruled, walk-only}
+use Rattle.walk.proofs.Origins.{Origin, Origins, origin-of, walk-origins, Before, clear-of, Short, in-rows, in-columns, Full, walked-full}
 
 -- the items of a request, and its queue
 abbrev pub itemsOf : Request → List Item
@@ -42,7 +50,12 @@ run-is : (r : Request) → runOf r ≡ walk (settingOf r) (λ c. c) (queueOf r) 
 unfolding runOf
 run-is r = refl
 
--- for every request there is one outcome: a refusal by the checks, a refusal for room, or the answers
+-- an item of the queue is the request's item of its index
+pub queued-item : (r : Request) (q : Queued) → Mem q (queueOf r) → q .item ≡ getD (itemsOf r) (q .index) (record { columns = Spanned 1; rows = Spanned 1 })
+queued-item r q m = queue-item (upTo (length (itemsOf r)) 0) (itemsOf r) q m
+
+-- ---- "For every input, one result and one set of lent contents": a refusal by the checks, a refusal for room, or the answers
+
 pub checks-refuse : (r : Request) (n i : ℕ) → checked r ≡ some (record { number = n; index = i }) → outcome r ≡ refused n i
 unfolding outcome
 checks-refuse r n i e = rw e
@@ -56,19 +69,73 @@ pub is-answered : (r : Request) (b : Board) → checked r ≡ none → runOf r �
 unfolding outcome told
 is-answered r b e f = rw (e, f)
 
-module _ (r : Request) (passed : checked r ≡ none) (b : Board) (run : runOf r ≡ going b) where
-  p : Passed r
-  p = checked-none r passed
+-- what a call leaves in the answer buffer, the row list and the column list, by what they held before
+pub record Leaves (r : Request) (o : Outcome) (answers rows columns : List ℤ → List ℤ) : Type 0 where
+  pub in-answers : (old : List ℤ) → answersLeft r old o ≡ answers old
+  pub in-rows-list : (old : List ℤ) → rowsLeft r old o ≡ rows old
+  pub in-columns-list : (old : List ℤ) → columnsLeft r old o ≡ columns old
 
+-- 1 to 6: "unchanged"
+pub refusal-unchanged : (r : Request) (x : Refusal) → checked r ≡ some x → Leaves r (outcome r) (λ old. old) (λ old. old) (λ old. old)
+unfolding answersLeft rowsLeft columnsLeft
+refusal-unchanged r x e =
+    rw (checks-refuse r (x .number) (x .index) e)
+    (record {
+      in-answers = λ old. kept old (replicate (answerNumbers * itemCount r) (pos 0) ++ drop (answerNumbers * itemCount r) old);
+      in-rows-list = λ old. kept old (replicate (r .lists .rows) (pos 0));
+      in-columns-list = λ old. kept old (replicate (r .lists .columns) (pos 0));
+    })
+  where
+    kept : (old new : List ℤ) → cond (ltb (x .number) 7) old new ≡ old
+    kept old new = by-test (ltb (x .number) 7) (λ b. cond b old new ≡ old) (λ _. refl) (λ f. absurd (let z : ⊥ = omega (arith, checked-low r x e, ltb-false (x .number) 7 f) in z))
+
+-- ---- a request that passes the checks: r keeps the rules of each step (specs/Rules), and nothing else does
+
+module _ (r : Request) (passed : checked r ≡ none) where
+  start-kept : Kept (emptyBoard (r .counts))
+  start-kept = record { tiles = nil; counts = checked-none r passed .counts; covered = nil; clear = Clear.none }
+
+  -- steps 1, 2 and 4: each item takes its lines, or the first free line or pair from where its step's sentence says, or is laid untested; up to the first for which there is no room
+  pub ruled : Walked (settingOf r) (λ c. c) (queueOf r) (emptyBoard (r .counts)) (runOf r)
+  ruled = rw (run-is r) (walk-ruled (settingOf r) (queueOf r) (λ c. c) no-growth (emptyBoard (r .counts)) start-kept)
+
+  -- "any two that satisfy a statement are proved identical"
+  pub ruled-only : (x : Run) → Walked (settingOf r) (λ c. c) (queueOf r) (emptyBoard (r .counts)) x → runOf r ≡ x
+  ruled-only x d = run-is r ∙ walk-only (settingOf r) (queueOf r) (λ c. c) no-growth (emptyBoard (r .counts)) start-kept d
+
+  -- "7 row list too short, 8 column list too short": only where an item's tile, laid by its step's rule, needs more records than the list has places
+  pub refused-full : (n i : ℕ) → runOf r ≡ stopped n i → Full (settingOf r) (queueOf r) n i
+  refused-full n i e = walked-full (queueOf r) n i ruled e
+
+  -- "a request that fits is answered": if no item's tile is without room, the run ends with a board
+  pub fits-answered : ((n i : ℕ) → Full (settingOf r) (queueOf r) n i → ⊥) → (b : Board) × (runOf r ≡ going b)
+  fits-answered room = go (runOf r) refl
+    where
+      go : (x : Run) → runOf r ≡ x → (b : Board) × (runOf r ≡ going b)
+      go (going b) e = (b, e)
+      go (stopped n i) e = absurd (room n i (refused-full n i e))
+
+  -- "and then the answer places of all items and both lists are zero"
+  pub room-zero : (n i : ℕ) → runOf r ≡ stopped n i
+      → Leaves r (outcome r) (λ old. replicate (answerNumbers * itemCount r) (pos 0) ++ drop (answerNumbers * itemCount r) old) (λ _. replicate (r .lists .rows) (pos 0)) (λ _. replicate (r .lists .columns) (pos 0))
+  unfolding answersLeft rowsLeft columnsLeft
+  room-zero n i e =
+      let f = refused-full n i e .lacks in
+      rw (room-refuses r n i passed e) (record { in-answers = λ old. new n f old _; in-rows-list = λ old. new n f old _; in-columns-list = λ old. new n f old _ })
+    where
+      new : {b : Board} (n : ℕ) → Short (settingOf r) b n → (old z : List ℤ) → cond (ltb n 7) old z ≡ z
+      new n (in-rows x) old z = refl
+      new n (in-columns x y) old z = refl
+
+-- ---- a request that is answered
+
+module _ (r : Request) (passed : checked r ≡ none) (b : Board) (run : runOf r ≡ going b) where
   e : walk (settingOf r) (λ c. c) (queueOf r) (emptyBoard (r .counts)) ≡ going b
   e = sym (run-is r) ∙ run
 
-  empty-kept : Kept (emptyBoard (r .counts))
-  empty-kept = record { tiles = nil; counts = p .counts; covered = nil; clear = Clear.none }
-
   -- "limit its lines": every tile's lines are in the limited grid; counts within their limits; each tile whose mark is 0 overlaps no earlier tile
   pub kept : Kept b
-  kept = walk-kept (settingOf r) (λ c. c) no-growth (queueOf r) (emptyBoard (r .counts)) b empty-kept e
+  kept = walk-kept (settingOf r) (λ c. c) no-growth (queueOf r) (emptyBoard (r .counts)) b (start-kept r passed) e
 
   pub tiles-in-grid : Tiled (b .tiles)
   tiles-in-grid = kept .tiles
@@ -76,10 +143,21 @@ module _ (r : Request) (passed : checked r ≡ none) (b : Board) (run : runOf r 
   pub unmarked-clear : Clear (b .tiles)
   unmarked-clear = kept .clear
 
+  -- an auto-placed tile that is "marked neither pressed nor overwide covers no cell taken before it": ts are the tiles before it
+  pub unmarked-cells : (x : Tile) (ts : List Tile) → Before x ts (b .tiles) → x .mark ≡ 0 → (a : Axis) (u q : ℤ) → Cell a (x .area) u q → stateAt (history a ts) u q ≡ 0
+  unmarked-cells x ts m z a u q c = free-cells a ts (x .area) (clear-of unmarked-clear m z) u q c
+
+  -- every tile comes from an item of the request, by its step's rule on the board as it stood before it, with the least counts for the tiles laid by then
+  -- (`fixed-takes`, `mark-is` and `mark-bits` of Origins: "Items fixed in both axes take their lines"; "Mark: the sum of 1 pressed, 2 both axes fixed, 4 overwide")
+  pub origins : (once : Place) × Origins (settingOf r) once (r .counts) (queueOf r) (b .tiles)
+  origins = walk-origins (settingOf r) (queueOf r) (emptyBoard (r .counts)) b refl (start-kept r passed) e
+
+  pub origin : (x : Tile) (ts : List Tile) → Before x ts (b .tiles) → Origin (settingOf r) (origins .0) (r .counts) (queueOf r) x ts
+  origin x ts m = origin-of (origins .1) m
+
   -- "least counts covering the given ones and all recorded lines"
   pub least-counts : Least (r .counts) b
-  least-counts = counts-least (settingOf r) (queueOf r) (r .counts) (emptyBoard (r .counts)) b
-      (record { grows = record { columns = grows-refl (r .counts .columns); rows = grows-refl (r .counts .rows) }; covers = nil; least = λ d g _. g }) e
+  least-counts = counts-least (settingOf r) (queueOf r) (r .counts) (emptyBoard (r .counts)) b (least-none (emptyBoard (r .counts)) refl) e
 
   -- so any counts that grow from the given ones, cover every tile and are least are these
   pub counts-only : (d : Both TrackCounts) → GrowsBoth (r .counts) d → Every (λ (t : Tile). CoversArea d (t .area)) (b .tiles)
@@ -100,8 +178,8 @@ module _ (r : Request) (passed : checked r ≡ none) (b : Board) (run : runOf r 
   coloured (more {x = t} h hs) = more (go (eqb (t .step) 1) refl) (coloured hs)
     where
       go : (y : Bool) → eqb (t .step) 1 ≡ y → ok (t .state) ≡ true
-      go true i = rw (h .first (borrow.Author.Tests.eqb-true (t .step) 1 i))
-      go false i = rw (h .others (borrow.Author.Tests.eqb-false (t .step) 1 i))
+      go true i = rw (h .first (eqb-true (t .step) 1 i))
+      go false i = rw (h .others (eqb-false (t .step) 1 i))
 
   -- the lists keep the list rules, and a cell has the state of the last tile painted over it
   pub lists-keep : (x : Axis) → keeps (recordsOn x (b .tiles)) ≡ true
@@ -109,6 +187,11 @@ module _ (r : Request) (passed : checked r ≡ none) (b : Board) (run : runOf r 
 
   pub lists-cells : (x : Axis) (u q : ℤ) → cellOf (recordsOn x (b .tiles)) u q ≡ stateAt (history x (b .tiles)) u q
   lists-cells x u q = records-cell x (b .tiles) tiles-in-grid (coloured states) u q
+
+  -- and they are the only ones that do
+  pub lists-only : (x : Axis) (rs : List (Rec ℤ)) → keeps rs ≡ true → ((u q : ℤ) → cellOf rs u q ≡ stateAt (history x (b .tiles)) u q) → rs ≡ recordsOn x (b .tiles)
+  unfolding recordsOn
+  lists-only x rs k c = is-painted rs (history x (b .tiles)) k (history-fits x tiles-in-grid (coloured states)) c
 
   -- "Free means that no cell of the area has a state"
   pub free-means : (x : Axis) (a : Extent) → Solid a → free (b .tiles) a ≡ true ↔ ((u q : ℤ) → Cell x a u q → cellOf (recordsOn x (b .tiles)) u q ≡ 0)
@@ -149,7 +232,7 @@ module _ (r : Request) (passed : checked r ≡ none) (b : Board) (run : runOf r 
   -- for code: the answer buffer, written item by item, is in the end what the outcome says
   pub answers-written : (old : List ℤ) → length old ≡ r .answers → written (b .tiles) old ≡ answersLeft r old (outcome r)
   unfolding answersLeft
-  answers-written old h = let a = p .answers in written-is (itemCount r) (b .tiles) old all-placed only-items (omega arith) ∙ rw (is-answered r b passed run)
+  answers-written old h = let a = checked-none r passed .answers in written-is (itemCount r) (b .tiles) old all-placed only-items (omega arith) ∙ rw (is-answered r b passed run)
 
 -- ---- "With 2000 items no searched line passes 22000": the cursor of step 4 after any of the items
 
