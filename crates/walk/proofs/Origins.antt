@@ -1,9 +1,8 @@
 -- Where each tile of a board comes from: an item, and the board as it stood before it, on which the tile keeps its step's rule. And what its mark says.
-use mathlib.Core.Path.{_≡_, refl, sym, ap, _∙_, subst}
+use mathlib.Core.Path.{_≡_, refl, ap, _∙_, subst}
 use mathlib.Core.Bool.{Bool, true, false}
 use mathlib.Core.List.{List, [], _∷_}
 use Prim.Native.Nat.{ℕ, _+_, _/_, _%_}
-use native.Mathlib.Omega.{arith}
 use lib.Dec.{eqb}
 use Rattle.coordinates.specs.declared.Lines.{Lines}
 use Rattle.coordinates.specs.Line.{limited}
@@ -12,8 +11,8 @@ use Rattle.walk.specs.declared.Placement.{Placement}
 use Rattle.walk.specs.declared.Placement.the-variants.{Fixed}
 use Rattle.walk.specs.Axis.{Axis, col, row, other, Both, on, laid, limitedArea, pressedArea}
 use Rattle.walk.specs.Search.{Place}
-use Rattle.walk.specs.Walk.{Item, Queued, Tile, Board, Setting, Choice, Run, going, stopped, bit, free, short, tileOf, laidOn, step1, step2, step4, andThen, each, begin4, last4, walk}
-use Rattle.walk.specs.Rules.{Rule, Rule1, Rule2, Rule4, takes, finds, finds-line, finds-pair, lays-untested, mine1, mine2, mine4, wide, Settled, by1, by2, by4, Turn, passes, lays, full7, full8, Through, done, goes, stops, Walked, stops1, stops2, ends}
+use Rattle.walk.specs.Walk.{Item, Queued, Tile, Board, Setting, Choice, Run, going, bit, free, tileOf, laidOn, step1, step2, step4, andThen, each, begin4, last4, walk}
+use Rattle.walk.specs.Rules.{Rule, takes, finds, finds-line, finds-pair, lays-untested, mine1, wide, Settled, by1, by2, by4, Turn, passes, lays, full7, full8}
 use Rattle.walk.proofs.Tests.{Every, nil, more, Mem, top, under}
 use Rattle.walk.proofs.WalkLaws.{Clear, next, Kept, Least, least-none, least-laid, no-growth, kept-step1, kept-step2, kept-step4, kept-begin4, stay, never, Went, went, each-keeps}
 use Rattle.walk.proofs.Ruled.{turn1, turn2, turn4}
@@ -166,43 +165,3 @@ fixed-takes {w} {once} o c d e =
     go : (a : Axis) → w .axis ≡ a → Settled w once (o .before) (on a (record { columns = Fixed c; rows = Fixed d })) (on (other a) (record { columns = Fixed c; rows = Fixed d })) (o .choice) → o .choice .area ≡ record { columns = c; rows = d }
     go col i k = settled-fixed k ∙ rw i
     go row i k = settled-fixed k ∙ rw i
-
--- ---- a run that stops: at an item whose tile, laid by its step's rule, needs more records than a list has places
-
--- "7 before 8"
-pub data Short (w : Setting) (b : Board) : ℕ → Type 0 where
-  in-rows : short w row b ≡ true → Short w b 7
-  in-columns : short w row b ≡ false → short w col b ≡ true → Short w b 8
-
-pub record Full (w : Setting) (qs : List Queued) (n i : ℕ) : Type 0 where
-  pub before : Board
-  pub once : Place
-  pub item : Queued
-  pub queued : Mem item qs
-  pub index : item .index ≡ i
-  pub choice : Choice
-  pub settled : Settled w once before (on (w .axis) (item .item)) (on (other (w .axis)) (item .item)) choice
-  pub lacks : Short w (laidOn i choice before) n
-
-full-through : {w : Setting} {once : Place} {mine : Placement → Placement → Bool} {R : Rule} (all : List Queued) → ((t : Board) (p s : Placement) (h : Choice) → R t p s h → Settled w once t p s h)
-    → {qs : List Queued} {t : Board} {r : Run} (n i : ℕ) → ((q : Queued) → Mem q qs → Mem q all) → Through w mine R qs t r → r ≡ stopped n i → Full w all n i
-full-through all by n i f done e = never (sym e)
-full-through all by n i f (goes d rest) e = full-through all by n i (λ q m. f q (under m)) rest e
-full-through {w} {once} {mine} {R} all by n i f (stops {q} {qs} {t} d) e = go d e
-  where
-    go : {r : Run} → Turn w mine R (q .index) (on (w .axis) (q .item)) (on (other (w .axis)) (q .item)) t r → r ≡ stopped n i → Full w all n i
-    go (passes m) z = never (sym z)
-    go (lays h k x y) z = never (sym z)
-    go (full7 h k x) z =
-        let n₇ : 7 ≡ n = cc in
-        let j : q .index ≡ i = cc in
-        record { before = t; once = once; item = q; queued = f q top; index = j; choice = h; settled = by t (on (w .axis) (q .item)) (on (other (w .axis)) (q .item)) h k; lacks = rw (← j, ← n₇) (in-rows x) }
-    go (full8 h k x y) z =
-        let n₈ : 8 ≡ n = cc in
-        let j : q .index ≡ i = cc in
-        record { before = t; once = once; item = q; queued = f q top; index = j; choice = h; settled = by t (on (w .axis) (q .item)) (on (other (w .axis)) (q .item)) h k; lacks = rw (← j, ← n₈) (in-columns x y) }
-
-pub walked-full : {w : Setting} {growth : Both TrackCounts → Both TrackCounts} (qs : List Queued) {t : Board} {r : Run} (n i : ℕ) → Walked w growth qs t r → r ≡ stopped n i → Full w qs n i
-walked-full qs {t} n i (stops1 d) e = full-through {once = t .cursor} qs (λ _ _ _ _ k. by1 k) n i (λ q m. m) d e
-walked-full qs {t} n i (stops2 d₁ d₂) e = full-through {once = t .cursor} qs (λ _ _ _ _ k. by2 k) n i (λ q m. m) d₂ e
-walked-full qs n i (ends d₁ d₂ d₄) e = full-through qs (λ _ _ _ _ k. by4 k) n i (λ q m. m) d₄ e

@@ -23,7 +23,7 @@ use Rattle.walk.specs.Axis.{Axis, col, row, other, Both, on, Extent}
 use Rattle.walk.specs.Search.{Place}
 use Rattle.walk.specs.Walk.{Item, Queued, Tile, Board, Setting, Run, going, stopped, free, tileOf, laidOn, recordsOn, step4, each, begin4, walk}
 use Rattle.walk.specs.Request.{Request, Refusal, Outcome, refused, answered, answerNumbers, checked, halves, badFrom, itemOf, itemCount, settingOf, upTo, queue, emptyBoard, runOf, answersOf, told, outcome, answersLeft, rowsLeft, columnsLeft}
-use Rattle.walk.specs.Rules.{Walked}
+use Rattle.walk.specs.Rules.{Walked, Full}
 use Rattle.walk.specs.OnList.{written}
 use Rattle.walk.proofs.Tests.{Every, nil, more, Mem}
 use Rattle.walk.proofs.LinesLaws.{each-on, GrowsBoth, CoversArea, start-low, start-high}
@@ -33,8 +33,8 @@ use Rattle.walk.proofs.Range.{Run4, run4}
 use Rattle.walk.proofs.Cells.{history, Coloured, Cell, Solid, history-fits, records-keep, records-cell, free-cells, free-list}
 use Rattle.walk.proofs.Checks.{Passed, checked-none, checked-low, good-items, good-queue, halves-length}
 use Rattle.walk.proofs.Placed.{Has, walk-has, walk-count, queue-length, written-is, queue-all, queue-below, queue-item}
-use Rattle.walk.proofs.Ruled.{walk-ruled, walk-only}
-use Rattle.walk.proofs.Origins.{Origin, Origins, origin-of, walk-origins, Before, clear-of, Short, in-rows, in-columns, Full, walked-full}
+use Rattle.walk.proofs.Ruled.{walk-ruled, walk-only, walked-full, full-walked, full-number}
+use Rattle.walk.proofs.Origins.{Origin, Origins, origin-of, walk-origins, Before, clear-of}
 
 -- the items of a request, and its queue
 abbrev pub itemsOf : Request → List Item
@@ -72,8 +72,8 @@ is-answered r b e f = rw (e, f)
 -- what a call leaves in the answer buffer, the row list and the column list, by what they held before
 pub record Leaves (r : Request) (o : Outcome) (answers rows columns : List ℤ → List ℤ) : Type 0 where
   pub in-answers : (old : List ℤ) → answersLeft r old o ≡ answers old
-  pub in-rows-list : (old : List ℤ) → rowsLeft r old o ≡ rows old
-  pub in-columns-list : (old : List ℤ) → columnsLeft r old o ≡ columns old
+  pub in-rows : (old : List ℤ) → rowsLeft r old o ≡ rows old
+  pub in-columns : (old : List ℤ) → columnsLeft r old o ≡ columns old
 
 -- 1 to 6: "unchanged"
 pub refusal-unchanged : (r : Request) (x : Refusal) → checked r ≡ some x → Leaves r (outcome r) (λ old. old) (λ old. old) (λ old. old)
@@ -82,8 +82,8 @@ refusal-unchanged r x e =
     rw (checks-refuse r (x .number) (x .index) e)
     (record {
       in-answers = λ old. kept old (replicate (answerNumbers * itemCount r) (pos 0) ++ drop (answerNumbers * itemCount r) old);
-      in-rows-list = λ old. kept old (replicate (r .lists .rows) (pos 0));
-      in-columns-list = λ old. kept old (replicate (r .lists .columns) (pos 0));
+      in-rows = λ old. kept old (replicate (r .lists .rows) (pos 0));
+      in-columns = λ old. kept old (replicate (r .lists .columns) (pos 0));
     })
   where
     kept : (old new : List ℤ) → cond (ltb (x .number) 7) old new ≡ old
@@ -103,29 +103,34 @@ module _ (r : Request) (passed : checked r ≡ none) where
   pub ruled-only : (x : Run) → Walked (settingOf r) (λ c. c) (queueOf r) (emptyBoard (r .counts)) x → runOf r ≡ x
   ruled-only x d = run-is r ∙ walk-only (settingOf r) (queueOf r) (λ c. c) no-growth (emptyBoard (r .counts)) start-kept d
 
-  -- "7 row list too short, 8 column list too short": only where an item's tile, laid by its step's rule, needs more records than the list has places
-  pub refused-full : (n i : ℕ) → runOf r ≡ stopped n i → Full (settingOf r) (queueOf r) n i
-  refused-full n i e = walked-full (queueOf r) n i ruled e
+  -- "7 row list too short, 8 column list too short": exactly where an item, after those before it in its step, has a tile that needs more records than the list has places
+  pub refused-full : (n i : ℕ) → runOf r ≡ stopped n i ↔ Full (settingOf r) (λ c. c) (queueOf r) (emptyBoard (r .counts)) n i
+  refused-full n i = ((λ e. walked-full n i ruled e), (λ f. ruled-only (stopped n i) (full-walked f)))
 
-  -- "a request that fits is answered": if no item's tile is without room, the run ends with a board
-  pub fits-answered : ((n i : ℕ) → Full (settingOf r) (queueOf r) n i → ⊥) → (b : Board) × (runOf r ≡ going b)
+  -- "a request that fits is answered"
+  pub fits-answered : ((n i : ℕ) → Full (settingOf r) (λ c. c) (queueOf r) (emptyBoard (r .counts)) n i → ⊥) → (b : Board) × (runOf r ≡ going b)
   fits-answered room = go (runOf r) refl
     where
       go : (x : Run) → runOf r ≡ x → (b : Board) × (runOf r ≡ going b)
       go (going b) e = (b, e)
-      go (stopped n i) e = absurd (room n i (refused-full n i e))
+      go (stopped n i) e = absurd (room n i (refused-full n i .0 e))
 
   -- "and then the answer places of all items and both lists are zero"
   pub room-zero : (n i : ℕ) → runOf r ≡ stopped n i
       → Leaves r (outcome r) (λ old. replicate (answerNumbers * itemCount r) (pos 0) ++ drop (answerNumbers * itemCount r) old) (λ _. replicate (r .lists .rows) (pos 0)) (λ _. replicate (r .lists .columns) (pos 0))
   unfolding answersLeft rowsLeft columnsLeft
   room-zero n i e =
-      let f = refused-full n i e .lacks in
-      rw (room-refuses r n i passed e) (record { in-answers = λ old. new n f old _; in-rows-list = λ old. new n f old _; in-columns-list = λ old. new n f old _ })
+      let f = full-number (refused-full n i .0 e) in
+      rw (room-refuses r n i passed e)
+      (record {
+        in-answers = λ old. new f old (replicate (answerNumbers * itemCount r) (pos 0) ++ drop (answerNumbers * itemCount r) old);
+        in-rows = λ old. new f old (replicate (r .lists .rows) (pos 0));
+        in-columns = λ old. new f old (replicate (r .lists .columns) (pos 0));
+      })
     where
-      new : {b : Board} (n : ℕ) → Short (settingOf r) b n → (old z : List ℤ) → cond (ltb n 7) old z ≡ z
-      new n (in-rows x) old z = refl
-      new n (in-columns x y) old z = refl
+      new : (n ≡ 7) ⊎ (n ≡ 8) → (old z : List ℤ) → cond (ltb n 7) old z ≡ z
+      new (inl h) old z = rw h refl
+      new (inr h) old z = rw h refl
 
 -- ---- a request that is answered
 

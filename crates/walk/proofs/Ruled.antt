@@ -1,7 +1,8 @@
 -- The walk keeps the rules of specs/Rules, and nothing else does.
 use mathlib.Core.Path.{_≡_, refl, sym, ap, _∙_}
 use mathlib.Core.Bool.{Bool, true, false, cond}
-use mathlib.Core.List.{List, [], _∷_}
+use mathlib.Core.List.{List, [], _∷_, _++_}
+use mathlib.Core.Logic.{_⊎_, inl, inr}
 use Prim.Native.Nat.{ℕ}
 use Rattle.coordinates.specs.declared.Lines.{Lines}
 use Rattle.grid_track_counts.specs.declared.TrackCounts.{TrackCounts}
@@ -10,10 +11,10 @@ use Rattle.walk.specs.declared.Placement.the-variants.{Fixed, Spanned}
 use Rattle.walk.specs.Axis.{col, row, other, Both, on}
 use Rattle.walk.specs.Search.{Place}
 use Rattle.walk.specs.Walk.{Queued, Board, Setting, Choice, Run, going, stopped, laidOn, short, judged, put, choose1, step1, choose2, step2, chooseLine, choosePair, step4, andThen, each, begin4, last4, walk}
-use Rattle.walk.specs.Rules.{Rule, Rule1, Rule2, Rule4, takes, finds, finds-line, finds-pair, lays-untested, mine1, mine2, mine4, Turn, passes, lays, full7, full8, Through, done, goes, stops, Walked, stops1, stops2, ends}
+use Rattle.walk.specs.Rules.{Rule, Rule1, Rule2, Rule4, takes, finds, finds-line, finds-pair, lays-untested, mine1, mine2, mine4, Turn, passes, lays, full7, full8, Through, done, goes, stops, Walked, stops1, stops2, ends, Short, rows-short, columns-short, Lacks, Full, in1, in2, in4}
 use Rattle.walk.proofs.Tests.{clash}
 use Rattle.walk.proofs.FreeLaws.{Tiled, choose1-rule, choose2-rule, chooseLine-rule, choosePair-rule, rule1-only, rule2-only, rule4-line-only, rule4-pair-only}
-use Rattle.walk.proofs.WalkLaws.{Kept, Growing, kept-step1, kept-step2, kept-step4, kept-begin4, kept1, kept2}
+use Rattle.walk.proofs.WalkLaws.{never, stay, Kept, Growing, kept-step1, kept-step2, kept-step4, kept-begin4, kept1, kept2}
 use Rattle.walk.proofs.Loops.{each-next, each-stop}
 
 -- ---- one item
@@ -178,3 +179,57 @@ module _ (w : Setting) (qs : List Queued) where
         let e₂ = each-only2 k₁ d₂ in
         let k₂ = kept-begin4 w growth G qs b₂ (kept2 w qs b₁ b₂ k₁ e₂) in
         rw (e₁, e₂, each-only4 (begin4 w growth b₂ .cursor) k₂ d₄)
+
+-- ---- a run stops exactly where a tile lacks room
+
+module _ {w : Setting} {mine : Placement → Placement → Bool} {R : Rule} where
+  lacks-of : {qs : List Queued} {t : Board} {r : Run} (n i : ℕ) → Through w mine R qs t r → r ≡ stopped n i → Lacks w mine R qs t n i
+  lacks-of n i done e = never (sym e)
+  lacks-of n i (goes {q} d rest) e =
+      let l = lacks-of n i rest e in
+      record { xs = q ∷ l .xs; item = l .item; ys = l .ys; order = ap (λ (z : List Queued). q ∷ z) (l .order); before = l .before; reached = goes d (l .reached); choice = l .choice; settled = l .settled; index = l .index; lacks = l .lacks }
+  lacks-of n i (stops {q} {qs} {t} d) e = go d e
+    where
+      go : {r : Run} → Turn w mine R (q .index) (on (w .axis) (q .item)) (on (other (w .axis)) (q .item)) t r → r ≡ stopped n i → Lacks w mine R (q ∷ qs) t n i
+      go (passes m) z = never (sym z)
+      go (lays h k x y) z = never (sym z)
+      go (full7 h k x) z =
+          let m : 7 ≡ n = cc in
+          let j : q .index ≡ i = cc in
+          record { xs = []; item = q; ys = qs; order = refl; before = t; reached = done; choice = h; settled = k; index = j; lacks = rw (← m) (rows-short x) }
+      go (full8 h k x y) z =
+          let m : 8 ≡ n = cc in
+          let j : q .index ≡ i = cc in
+          record { xs = []; item = q; ys = qs; order = refl; before = t; reached = done; choice = h; settled = k; index = j; lacks = rw (← m) (columns-short x y) }
+
+  then : {xs ys : List Queued} {t u : Board} {r x : Run} → Through w mine R xs t x → x ≡ going u → Through w mine R ys u r → Through w mine R (xs ++ ys) t r
+  then done e d = rw (stay e) d
+  then (goes h rest) e d = goes h (then rest e d)
+  then (stops h) e d = never e
+
+  of-lacks : {qs : List Queued} {t : Board} {n i : ℕ} → Lacks w mine R qs t n i → Through w mine R qs t (stopped n i)
+  of-lacks {n} l = rw (l .order, ← (l .index)) (then (l .reached) refl (stops (go (l .lacks))))
+    where
+      go : {m : ℕ} → Short w (laidOn (l .item .index) (l .choice) (l .before)) m → Turn w mine R (l .item .index) (on (w .axis) (l .item .item)) (on (other (w .axis)) (l .item .item)) (l .before) (stopped m (l .item .index))
+      go (rows-short x) = full7 (l .choice) (l .settled) x
+      go (columns-short x y) = full8 (l .choice) (l .settled) x y
+
+pub walked-full : {w : Setting} {growth : Both TrackCounts → Both TrackCounts} {qs : List Queued} {t : Board} {r : Run} (n i : ℕ) → Walked w growth qs t r → r ≡ stopped n i → Full w growth qs t n i
+walked-full n i (stops1 d) e = in1 (lacks-of n i d e)
+walked-full n i (stops2 d₁ d₂) e = in2 d₁ (lacks-of n i d₂ e)
+walked-full n i (ends d₁ d₂ d₄) e = in4 d₁ d₂ (lacks-of n i d₄ e)
+
+pub full-walked : {w : Setting} {growth : Both TrackCounts → Both TrackCounts} {qs : List Queued} {t : Board} {n i : ℕ} → Full w growth qs t n i → Walked w growth qs t (stopped n i)
+full-walked (in1 l) = stops1 (of-lacks l)
+full-walked (in2 d₁ l) = stops2 d₁ (of-lacks l)
+full-walked (in4 d₁ d₂ l) = ends d₁ d₂ (of-lacks l)
+
+-- the number is 7 or 8
+short-number : {w : Setting} {b : Board} {n : ℕ} → Short w b n → (n ≡ 7) ⊎ (n ≡ 8)
+short-number (rows-short x) = inl refl
+short-number (columns-short x y) = inr refl
+
+pub full-number : {w : Setting} {growth : Both TrackCounts → Both TrackCounts} {qs : List Queued} {t : Board} {n i : ℕ} → Full w growth qs t n i → (n ≡ 7) ⊎ (n ≡ 8)
+full-number (in1 l) = short-number (l .lacks)
+full-number (in2 d l) = short-number (l .lacks)
+full-number (in4 d e l) = short-number (l .lacks)
