@@ -7,6 +7,7 @@ pub mod Range
 pub mod Cells
 pub mod Checks
 pub mod Placed
+pub mod Answers
 pub mod OnLists
 pub mod Loops
 pub mod Ends

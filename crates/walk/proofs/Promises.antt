@@ -3,9 +3,9 @@
 use mathlib.Core.Path.{_≡_, refl, sym, ap, _∙_}
 use mathlib.Core.Logic.{_↔_, _⊎_, inl, inr}
 use mathlib.Core.Bool.{Bool, true, false, cond}
-use mathlib.Core.List.{List, [], _∷_, _++_, map}
-use mathlib.Core.Option.{Option, none, some}
-use Prim.Native.Nat.{ℕ, _+_, _*_, _≤_, _<_}
+use mathlib.Core.List.{List, _++_}
+use mathlib.Core.Option.{none, some}
+use Prim.Native.Nat.{ℕ, _+_, _*_, _<_}
 use native.Mathlib.Omega.{arith}
 use borrow.Author.Tests.{eqb-true, eqb-false, ltb-false}
 use lib.Dec.{eqb, ltb}
@@ -21,8 +21,8 @@ use Rattle.grid_track_counts.specs.Counts.{Sound}
 use Rattle.walk.specs.declared.Placement.the-variants.{Spanned}
 use Rattle.walk.specs.Axis.{Axis, col, row, other, Both, on, Extent}
 use Rattle.walk.specs.Search.{Place}
-use Rattle.walk.specs.Walk.{Item, Queued, Tile, Board, Setting, Run, going, stopped, free, tileOf, laidOn, recordsOn, step4, each, begin4, walk}
-use Rattle.walk.specs.Request.{Request, Refusal, Outcome, refused, answered, answerNumbers, checked, halves, badFrom, itemOf, itemCount, settingOf, upTo, queue, emptyBoard, runOf, answersOf, told, outcome, answersLeft, rowsLeft, columnsLeft}
+use Rattle.walk.specs.Walk.{Queued, Tile, Board, Setting, Run, going, stopped, free, tileOf, laidOn, recordsOn, step4, each, begin4, walk}
+use Rattle.walk.specs.Request.{Request, Refusal, Outcome, refused, answered, answerNumbers, checked, halves, itemOf, itemCount, settingOf, upTo, queue, itemsOf, queueOf, startOf, growthOf, runOf, answersOf, told, outcome, answersLeft, rowsLeft, columnsLeft}
 use Rattle.walk.specs.Rules.{Walked, Full}
 use Rattle.walk.specs.OnList.{written}
 use Rattle.walk.proofs.Tests.{Every, nil, more, Mem}
@@ -31,22 +31,16 @@ use Rattle.walk.proofs.FreeLaws.{Tiled}
 use Rattle.walk.proofs.WalkLaws.{Kept, Clear, no-growth, walk-kept, Least, least-none, counts-least, grows-same, WithStates, states-kept, Roomy, walk-roomy, walk-keeps}
 use Rattle.walk.proofs.Range.{Run4, run4}
 use Rattle.walk.proofs.Cells.{history, Coloured, Cell, Solid, history-fits, records-keep, records-cell, free-cells, free-list}
-use Rattle.walk.proofs.Checks.{Passed, checked-none, checked-low, good-items, good-queue, halves-length}
-use Rattle.walk.proofs.Placed.{Has, walk-has, walk-count, queue-length, written-is, queue-all, queue-below, queue-item}
+use Rattle.walk.proofs.Checks.{checked-none, checked-low, good-items, good-queue, halves-length}
+use Rattle.walk.proofs.Placed.{Has, walk-has, walk-count, queue-length, queue-all, queue-below, queue-item}
+use Rattle.walk.proofs.Answers.{written-is}
 use Rattle.walk.proofs.Ruled.{walk-ruled, walk-only, walked-full, full-walked, full-number}
 use Rattle.walk.proofs.Origins.{Origin, Origins, origin-of, walk-origins, Before, clear-of}
-
--- the items of a request, and its queue
-abbrev pub itemsOf : Request → List Item
-itemsOf r = map itemOf (halves (r .items))
-
-abbrev pub queueOf : Request → List Queued
-queueOf r = queue (upTo (length (itemsOf r)) 0) (itemsOf r)
 
 items-length : (r : Request) → length (itemsOf r) ≡ itemCount r
 items-length r = length-map (halves (r .items)) itemOf ∙ halves-length (r .items)
 
-run-is : (r : Request) → runOf r ≡ walk (settingOf r) (λ c. c) (queueOf r) (emptyBoard (r .counts))
+run-is : (r : Request) → runOf r ≡ walk (settingOf r) (growthOf r) (queueOf r) (startOf r)
 unfolding runOf
 run-is r = refl
 
@@ -92,23 +86,23 @@ refusal-unchanged r x e =
 -- ---- a request that passes the checks: r keeps the rules of each step (specs/Rules), and nothing else does
 
 module _ (r : Request) (passed : checked r ≡ none) where
-  start-kept : Kept (emptyBoard (r .counts))
+  start-kept : Kept (startOf r)
   start-kept = record { tiles = nil; counts = checked-none r passed .counts; covered = nil; clear = Clear.none }
 
   -- steps 1, 2 and 4: each item takes its lines, or the first free line or pair from where its step's sentence says, or is laid untested; up to the first for which there is no room
-  pub ruled : Walked (settingOf r) (λ c. c) (queueOf r) (emptyBoard (r .counts)) (runOf r)
-  ruled = rw (run-is r) (walk-ruled (settingOf r) (queueOf r) (λ c. c) no-growth (emptyBoard (r .counts)) start-kept)
+  pub ruled : Walked (settingOf r) (growthOf r) (queueOf r) (startOf r) (runOf r)
+  ruled = rw (run-is r) (walk-ruled (settingOf r) (queueOf r) (growthOf r) no-growth (startOf r) start-kept)
 
   -- "any two that satisfy a statement are proved identical"
-  pub ruled-only : (x : Run) → Walked (settingOf r) (λ c. c) (queueOf r) (emptyBoard (r .counts)) x → runOf r ≡ x
-  ruled-only x d = run-is r ∙ walk-only (settingOf r) (queueOf r) (λ c. c) no-growth (emptyBoard (r .counts)) start-kept d
+  pub ruled-only : (x : Run) → Walked (settingOf r) (growthOf r) (queueOf r) (startOf r) x → runOf r ≡ x
+  ruled-only x d = run-is r ∙ walk-only (settingOf r) (queueOf r) (growthOf r) no-growth (startOf r) start-kept d
 
   -- "7 row list too short, 8 column list too short": exactly where an item, after those before it in its step, has a tile that needs more records than the list has places
-  pub refused-full : (n i : ℕ) → runOf r ≡ stopped n i ↔ Full (settingOf r) (λ c. c) (queueOf r) (emptyBoard (r .counts)) n i
+  pub refused-full : (n i : ℕ) → runOf r ≡ stopped n i ↔ Full (settingOf r) (growthOf r) (queueOf r) (startOf r) n i
   refused-full n i = ((λ e. walked-full n i ruled e), (λ f. ruled-only (stopped n i) (full-walked f)))
 
   -- "a request that fits is answered"
-  pub fits-answered : ((n i : ℕ) → Full (settingOf r) (λ c. c) (queueOf r) (emptyBoard (r .counts)) n i → ⊥) → (b : Board) × (runOf r ≡ going b)
+  pub fits-answered : ((n i : ℕ) → Full (settingOf r) (growthOf r) (queueOf r) (startOf r) n i → ⊥) → (b : Board) × (runOf r ≡ going b)
   fits-answered room = go (runOf r) refl
     where
       go : (x : Run) → runOf r ≡ x → (b : Board) × (runOf r ≡ going b)
@@ -135,12 +129,12 @@ module _ (r : Request) (passed : checked r ≡ none) where
 -- ---- a request that is answered
 
 module _ (r : Request) (passed : checked r ≡ none) (b : Board) (run : runOf r ≡ going b) where
-  e : walk (settingOf r) (λ c. c) (queueOf r) (emptyBoard (r .counts)) ≡ going b
+  e : walk (settingOf r) (growthOf r) (queueOf r) (startOf r) ≡ going b
   e = sym (run-is r) ∙ run
 
   -- "limit its lines": every tile's lines are in the limited grid; counts within their limits; each tile whose mark is 0 overlaps no earlier tile
   pub kept : Kept b
-  kept = walk-kept (settingOf r) (λ c. c) no-growth (queueOf r) (emptyBoard (r .counts)) b (start-kept r passed) e
+  kept = walk-kept (settingOf r) (growthOf r) no-growth (queueOf r) (startOf r) b (start-kept r passed) e
 
   pub tiles-in-grid : Tiled (b .tiles)
   tiles-in-grid = kept .tiles
@@ -155,14 +149,14 @@ module _ (r : Request) (passed : checked r ≡ none) (b : Board) (run : runOf r 
   -- every tile comes from an item of the request, by its step's rule on the board as it stood before it, with the least counts for the tiles laid by then
   -- (`fixed-takes`, `mark-is` and `mark-bits` of Origins: "Items fixed in both axes take their lines"; "Mark: the sum of 1 pressed, 2 both axes fixed, 4 overwide")
   pub origins : (once : Place) × Origins (settingOf r) once (r .counts) (queueOf r) (b .tiles)
-  origins = walk-origins (settingOf r) (queueOf r) (emptyBoard (r .counts)) b refl (start-kept r passed) e
+  origins = walk-origins (settingOf r) (queueOf r) (startOf r) b refl (start-kept r passed) e
 
   pub origin : (x : Tile) (ts : List Tile) → Before x ts (b .tiles) → Origin (settingOf r) (origins .0) (r .counts) (queueOf r) x ts
   origin x ts m = origin-of (origins .1) m
 
   -- "least counts covering the given ones and all recorded lines"
   pub least-counts : Least (r .counts) b
-  least-counts = counts-least (settingOf r) (queueOf r) (r .counts) (emptyBoard (r .counts)) b (least-none (emptyBoard (r .counts)) refl) e
+  least-counts = counts-least (settingOf r) (queueOf r) (r .counts) (startOf r) b (least-none (startOf r) refl) e
 
   -- so any counts that grow from the given ones, cover every tile and are least are these
   pub counts-only : (d : Both TrackCounts) → GrowsBoth (r .counts) d → Every (λ (t : Tile). CoversArea d (t .area)) (b .tiles)
@@ -175,7 +169,7 @@ module _ (r : Request) (passed : checked r ≡ none) (b : Board) (run : runOf r 
 
   -- "State is 1 for step 1, else 2"
   pub states : WithStates (settingOf r) (b .tiles)
-  states = states-kept (settingOf r) (λ c. c) (queueOf r) (emptyBoard (r .counts)) b nil e
+  states = states-kept (settingOf r) (growthOf r) (queueOf r) (startOf r) b nil e
 
   coloured : {ts : List Tile} → WithStates (settingOf r) ts → Coloured ts
   unfolding settingOf
@@ -205,7 +199,7 @@ module _ (r : Request) (passed : checked r ≡ none) (b : Board) (run : runOf r 
   -- the lists fit
   pub roomy : Roomy (settingOf r) b
   unfolding recordsOn
-  roomy = walk-roomy (settingOf r) (λ c. c) (queueOf r) (emptyBoard (r .counts)) b (record { rows = omega arith; columns = omega arith }) e
+  roomy = walk-roomy (settingOf r) (growthOf r) (queueOf r) (startOf r) b (record { rows = omega arith; columns = omega arith }) e
 
   pub rows-length : length (flat (r .lists .rows) (recordsOn row (b .tiles))) ≡ r .lists .rows
   unfolding settingOf
@@ -219,20 +213,20 @@ module _ (r : Request) (passed : checked r ≡ none) (b : Board) (run : runOf r 
   pub all-placed : (i : ℕ) → i < itemCount r → Has i (b .tiles)
   all-placed i h =
       let n = items-length r in
-      queue-all (length (itemsOf r)) 0 (itemsOf r) (λ j. Has j (b .tiles)) (walk-has (settingOf r) (λ c. c) (queueOf r) (emptyBoard (r .counts)) b e) i (omega arith) (omega arith)
+      queue-all (length (itemsOf r)) 0 (itemsOf r) (λ j. Has j (b .tiles)) (walk-has (settingOf r) (growthOf r) (queueOf r) (startOf r) b e) i (omega arith) (omega arith)
 
   pub only-items : Every (λ (t : Tile). t .index < itemCount r) (b .tiles)
   unfolding laidOn tileOf begin4
   only-items =
       let n = items-length r in
-      walk-keeps (settingOf r) (λ c. c) (λ i. i < itemCount r) (λ x. Every (λ (t : Tile). t .index < itemCount r) (x .tiles)) (λ i h x j _ _ k. more j k) (λ x k. k)
-      (queueOf r) (emptyBoard (r .counts)) b (queue-below (length (itemsOf r)) 0 (itemCount r) (itemsOf r) (omega arith)) nil e
+      walk-keeps (settingOf r) (growthOf r) (λ i. i < itemCount r) (λ x. Every (λ (t : Tile). t .index < itemCount r) (x .tiles)) (λ i h x j _ _ k. more j k) (λ x k. k)
+      (queueOf r) (startOf r) b (queue-below (length (itemsOf r)) 0 (itemCount r) (itemsOf r) (omega arith)) nil e
 
   pub one-each : length (b .tiles) ≡ itemCount r
   one-each =
       let n = items-length r in
       let q = queue-length (length (itemsOf r)) 0 (itemsOf r) in
-      omega (arith, walk-count (settingOf r) (λ c. c) (queueOf r) (emptyBoard (r .counts)) b e)
+      omega (arith, walk-count (settingOf r) (growthOf r) (queueOf r) (startOf r) b e)
 
   -- for code: the answer buffer, written item by item, is in the end what the outcome says
   pub answers-written : (old : List ℤ) → length old ≡ r .answers → written (b .tiles) old ≡ answersLeft r old (outcome r)
@@ -246,7 +240,7 @@ module _ (r : Request) (passed : checked r ≡ none) where
   w = settingOf r
 
   -- from any good board, as the one after step 2, step 4's cursor starts within the grid
-  pub cursor-begins : (t : Board) → Kept t → Run4 0 (begin4 w (λ c. c) t)
+  pub cursor-begins : (t : Board) → Kept t → Run4 0 (begin4 w (growthOf r) t)
   unfolding begin4
   cursor-begins t k =
       let sp : Sound (on (w .axis) (t .counts)) = each-on (w .axis) (t .counts) (k .counts) in
@@ -261,7 +255,7 @@ module _ (r : Request) (passed : checked r ≡ none) where
       }
 
   -- and after the first k of the items the cursor's secondary line is at most 10000 + k (`within-line`, `within-pair` of Range: then no line chosen passes 22000)
-  pub cursor-stays : (t : Board) (k : Kept t) (is : List ℕ) (x : Board) → each w (step4 w (begin4 w (λ c. c) t .cursor)) (queue is (itemsOf r)) (begin4 w (λ c. c) t) ≡ going x → Run4 (length (queue is (itemsOf r)) + 0) x
+  pub cursor-stays : (t : Board) (k : Kept t) (is : List ℕ) (x : Board) → each w (step4 w (begin4 w (growthOf r) t .cursor)) (queue is (itemsOf r)) (begin4 w (growthOf r) t) ≡ going x → Run4 (length (queue is (itemsOf r)) + 0) x
   cursor-stays t k is x f =
       let s = cursor-begins t k in
-      run4 w (begin4 w (λ c. c) t .cursor) (s .cursor) (queue is (itemsOf r)) 0 (begin4 w (λ c. c) t) x (good-queue (w .axis) is (itemsOf r) (good-items (checked-none r passed .items))) s f
+      run4 w (begin4 w (growthOf r) t .cursor) (s .cursor) (queue is (itemsOf r)) 0 (begin4 w (growthOf r) t) x (good-queue (w .axis) is (itemsOf r) (good-items (checked-none r passed .items))) s f

@@ -4,7 +4,6 @@ use mathlib.Core.Bool.{Bool, true, false, cond}
 use mathlib.Core.List.{List, [], _∷_, _++_}
 use mathlib.Core.Logic.{_⊎_, inl, inr}
 use Prim.Native.Nat.{ℕ}
-use Rattle.coordinates.specs.declared.Lines.{Lines}
 use Rattle.grid_track_counts.specs.declared.TrackCounts.{TrackCounts}
 use Rattle.walk.specs.declared.Placement.{Placement}
 use Rattle.walk.specs.declared.Placement.the-variants.{Fixed, Spanned}
