@@ -17,4 +17,3 @@ pub mod Promises
 pub mod Boards
 mod Limits
 mod Telling
-mod Six
