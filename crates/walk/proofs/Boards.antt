@@ -10,7 +10,7 @@ use Rattle.grid_track_counts.specs.Counts.{grown, countsGood}
 use Rattle.walk.specs.Axis.{Both}
 use Rattle.walk.specs.Search.{lineFrom, firstLine, among, pairFrom, placesTo, firstPair}
 use Rattle.walk.specs.Walk.{free, tileOf, laidOn, recordsOn, short, judged, put, choose1, step1, endsOn, largest, largestOr, start2, choose2, step2, moved, start4, chooseLine, overwide, pairOf, untested, choosePair, step4, each, begin4, last4, walk}
-use Rattle.walk.specs.Request.{Request, Outcome, answered, halves, goodHalf, badFrom, placementOf, itemOf, lengthGood, checked, settingOf, upTo, queue, runOf, numbers, answerOf, answersOf, told, outcome}
+use Rattle.walk.specs.Request.{Request, Outcome, answered, halves, goodHalf, badFrom, placingOf, itemOf, lengthGood, checked, settingOf, upTo, queue, runOf, numbers, answerOf, answersOf, told, outcome}
 
 abbrev pub counts : ℕ → ℕ → ℕ → ℕ → ℕ → ℕ → Both TrackCounts
 counts a b c d e f = record { columns = record { negative = a; explicit = b; positive = c }; rows = record { negative = d; explicit = e; positive = f } }
@@ -52,5 +52,5 @@ table =
     []
 
 pub computed : map (λ (c : Case). outcome (c .given)) table ≡ map (λ (c : Case). c .expected) table
-unfolding limited pressed grown lineFrom firstLine among pairFrom placesTo firstPair free tileOf laidOn recordsOn short judged put choose1 step1 endsOn largest largestOr start2 choose2 step2 moved start4 chooseLine overwide pairOf untested choosePair step4 each begin4 last4 walk halves goodHalf badFrom placementOf itemOf countsGood lengthGood checked settingOf upTo queue runOf numbers answerOf answersOf told outcome clampTo span
+unfolding limited pressed grown lineFrom firstLine among pairFrom placesTo firstPair free tileOf laidOn recordsOn short judged put choose1 step1 endsOn largest largestOr start2 choose2 step2 moved start4 chooseLine overwide pairOf untested choosePair step4 each begin4 last4 walk halves goodHalf badFrom placingOf itemOf countsGood lengthGood checked settingOf upTo queue runOf numbers answerOf answersOf told outcome clampTo span
 computed = refl

@@ -20,7 +20,7 @@ use Rattle.walk.specs.declared.Placement.the-variants.{Fixed, Spanned}
 use Rattle.walk.specs.Axis.{Axis, col, row, other, Both, on}
 use Rattle.walk.specs.Search.{orElse}
 use Rattle.walk.specs.Walk.{Item, Queued}
-use Rattle.walk.specs.Request.{Request, Half, goodHalf, goodItem, badFrom, halves, placementOf, itemOf, lengthGood, itemCount, Refusal, no, checked, queue}
+use Rattle.walk.specs.Request.{Request, Half, goodHalf, goodItem, badFrom, halves, placingOf, itemOf, lengthGood, itemCount, Refusal, no, checked, queue}
 use Rattle.walk.proofs.Tests.{clash, and-true, or-true, or-false, not-false, Every, nil, more}
 use Rattle.walk.proofs.LinesLaws.{Each}
 use Rattle.walk.proofs.Range.{Good, lines-good, span-good, GoodItem}
@@ -87,8 +87,8 @@ good-span : (z : ℤ) → leZ (pos 1) z ≡ true → leZ z (pos 10000) ≡ true 
 good-span (pos n) f g = span-good {n = n} (omega signed) (omega signed)
 good-span (negsuc n) f g = absurd (let z : ⊥ = omega signed in z)
 
-pub good-half : (h : Half) → goodHalf h ≡ true → Good (placementOf h)
-unfolding goodHalf placementOf
+pub good-half : (h : Half) → goodHalf h ≡ true → Good (placingOf h)
+unfolding goodHalf placingOf
 good-half h e = go (eqZ (h .kind) (pos 0)) refl (or-true x y e)
   where
     x₁ : Bool

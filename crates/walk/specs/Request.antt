@@ -67,11 +67,11 @@ badFrom i [] = none
 badFrom i (x ∷ xs) = cond (goodItem x) (badFrom (suc i) xs) (some i)
 
 -- what an item's three numbers say of one axis
-unfoldable pub placementOf : Half → Placement
-placementOf h = cond (eqZ (h .kind) (pos 0)) (Fixed (lines (h .a) (h .b))) (Spanned (natAbs (h .a)))
+unfoldable pub placingOf : Half → Placement
+placingOf h = cond (eqZ (h .kind) (pos 0)) (Fixed (lines (h .a) (h .b))) (Spanned (natAbs (h .a)))
 
 unfoldable pub itemOf : Both Half → Item
-itemOf x = record { columns = placementOf (x .columns); rows = placementOf (x .rows) }
+itemOf x = record { columns = placingOf (x .columns); rows = placingOf (x .rows) }
 
 -- ---- "A placement run checks 1 to 6 in that order"
 
