@@ -1,6 +1,6 @@
 -- Lists of records as runs in reading order, and uniqueness. Z is any linear order of tracks and lines, given by its test `ltb`.
 use mathlib.Core.Path.{_≡_, refl, sym, ap, _∙_}
-use mathlib.Core.Bool.{Bool, true, false, not, cond, _&&_}
+use mathlib.Core.Bool.{Bool, true, false, not, cond, _&&_, _||_}
 use mathlib.Core.List.{List, [], _∷_, map}
 use mathlib.Core.Logic.{_≢_}
 use Prim.Native.Nat.{ℕ}
@@ -27,6 +27,10 @@ and-r false y e = no-both e refl
 
 pub and₃ : (x y z : Bool) → x && (y && z) ≡ true → (x ≡ true) × (y ≡ true) × (z ≡ true)
 and₃ x y z h = let k = and-r x (y && z) h in (and-l x (y && z) h, and-l y z k, and-r y z k)
+
+pub or-r : (x y : Bool) → y ≡ true → x || y ≡ true
+or-r true y e = refl
+or-r false y e = e
 
 pub and-i : {x y : Bool} → x ≡ true → y ≡ true → x && y ≡ true
 and-i e i = rw (e, i)

@@ -11,4 +11,6 @@ pub mod Split
 pub mod Tracks
 pub mod Spans
 pub mod OnTrack
+pub mod Lists
+pub mod Limits
 pub mod Examples

@@ -1,6 +1,6 @@
--- The tracks of an area, as a list.
+-- The tracks of an area as a list: none stands twice, and how the list begins.
 use mathlib.Core.Path.{_≡_, refl}
-use mathlib.Core.Bool.{Bool, true, false, _||_}
+use mathlib.Core.Bool.{true, false}
 use mathlib.Core.List.{List, [], _∷_}
 use Prim.Native.Nat.{ℕ, zero, suc}
 use lib.IntN.{ℤ, pos, _+ℤ_}
@@ -9,6 +9,7 @@ use Rattle.signed.specs.Parts.{gap}
 use Rattle.signed.proofs.Laws.{signed, sum}
 use Rattle.intervals.specs.Records.{same}
 use Rattle.intervals.specs.OverInt.{span, upto}
+use Rattle.intervals.proofs.Grid.{or-r}
 use Rattle.intervals.proofs.Paint.{mem}
 use Rattle.intervals.proofs.Tracks.{Dis, In, same-self}
 
@@ -25,10 +26,6 @@ unfolding span
 dis-span a b = dis-upto (gap a b) a
 
 -- all of a list are of it
-or-r : (x y : Bool) → y ≡ true → x || y ≡ true
-or-r true y e = refl
-or-r false y e = e
-
 in-more : (u : ℤ) (us ts : List ℤ) → In us ts → In (u ∷ us) ts
 in-more u us [] i = tt
 in-more u us (t ∷ ts) i = (or-r (same ltZ t u) (mem ltZ t us) (i .0), in-more u us ts (i .1))

@@ -6,18 +6,24 @@ use Prim.Native.Nat.{ℕ, _%_}
 use lib.Dec.{eqb, leb}
 use lib.ListN.{length}
 use lib.IntN.{ℤ, pos, negsuc}
-use lib.Signed.{ltZ, leZ}
-use Rattle.intervals.specs.Records.{Rec, rec, same}
+use lib.Signed.{ltZ, leZ, _≤ℤ_, _<ℤ_}
+use Rattle.intervals.specs.Records.{Rec, rec, Area, area, same}
 use Rattle.intervals.specs.Flat.{flatRows}
-use Rattle.intervals.specs.OverInt.{keeps, decode, flat, isFlat, digits}
+use Rattle.intervals.specs.OverInt.{cellOf, keeps, fit, decode, flat, isFlat, digits}
 
--- the track is one from `first` to `last`, the lines are from `low` to `high`
-abbrev pub inLimits : ℤ → ℤ → ℤ → ℤ → Rec ℤ → Bool
-inLimits first last low high (rec t a b s) = leZ first t && (leZ t last && (leZ low a && leZ b high))
+-- "The limited grid is -10000..10000": its first and last line, and its last track
+abbrev pub low : ℤ
+low = negsuc 9999
 
--- "Track -10000..9999, lines inside the limited grid": which is -10000..10000
+abbrev pub high : ℤ
+high = pos 10000
+
+abbrev pub last : ℤ
+last = pos 9999
+
+-- "Track -10000..9999, lines inside the limited grid"
 abbrev pub inGrid : Rec ℤ → Bool
-inGrid = inLimits (negsuc 9999) (pos 9999) (negsuc 9999) (pos 10000)
+inGrid (rec t a b s) = leZ low t && (leZ t last && (leZ low a && leZ b high))
 
 abbrev pub allIn : List (Rec ℤ) → Bool
 allIn [] = true
@@ -27,6 +33,18 @@ allIn (r ∷ rs) = inGrid r && allIn rs
 -- touching ones differ in state"
 abbrev pub rules : List (Rec ℤ) → Bool
 rules rs = keeps rs && allIn rs
+
+-- the lines of an area are inside the limited grid, where each start is below its end
+abbrev pub areaIn : Area ℤ → Bool
+areaIn (area t₁ t₂ a b s) = leZ low t₁ && (leZ t₂ high && (leZ low a && leZ b high))
+
+-- an area that is painted: it has none of "start not below end, or, for painting, a line outside the limited grid or a state not 1 or 2"
+abbrev pub goodArea : Area ℤ → Bool
+goodArea x = fit x && areaIn x
+
+abbrev pub goodAreas : List (Area ℤ) → Bool
+goodAreas [] = true
+goodAreas (x ∷ h) = goodArea x && goodAreas h
 
 -- the first n records of a flat list
 abbrev pub recs : ℕ → List ℤ → List (Rec ℤ)
@@ -53,3 +71,7 @@ goodLength l = eqb (length l % 4) 0 && leb (length l) 1048576
 abbrev pub onTrack : ℤ → List (Rec ℤ) → List (Rec ℤ)
 onTrack t [] = []
 onTrack t (rec u a b s ∷ rs) = cond (same ltZ t u) (rec u a b s ∷ onTrack t rs) (onTrack t rs)
+
+-- "Free means that no cell of the area has a state": of the tracks t₁..t₂ and the lines a..b
+abbrev pub Free : List (Rec ℤ) → ℤ → ℤ → ℤ → ℤ → Type 0
+Free rs t₁ t₂ a b = (t p : ℤ) → t₁ ≤ℤ t → t <ℤ t₂ → a ≤ℤ p → p <ℤ b → cellOf rs t p ≡ 0

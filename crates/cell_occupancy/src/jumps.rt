@@ -1,0 +1,131 @@
+// Jumps over what is taken: past the records that an area meets, and past the last track with a record.
+ghost use mathlib.Core.Path.{_≡_};
+ghost use Prim.Native.Nat.{_/_};
+ghost use lib.ListN.{length};
+ghost use lib.IntN.{ℤ, pos, _+ℤ_};
+ghost use lib.Signed.{_≤ℤ_, _<ℤ_};
+ghost use Rattle.intervals.specs.Lists.{Holds, recs};
+ghost use Rattle.cell_occupancy.specs.declared.jumps.Jump.the-variants as J;
+ghost use Rattle.cell_occupancy.specs.Calls.{extentOf, larger, collisionJump, occupiedJump};
+ghost use Rattle.cell_occupancy.specs.Inner.{Ascends, Searched};
+use crate::rules::number;
+use crate::tracks::last_track;
+use crate::tracks::lower;
+
+// What a track has against some lines: the line where the last record that overlaps them ends.
+pub enum Extent {
+    Ends(i16),
+    Free,
+}
+
+// Where a search goes on.
+pub enum Jump {
+    Next(i16),
+    Free,
+}
+
+// The end of the last record of the part that overlaps start..end. The records are in order, so the last one that starts before
+// `end` decides.
+pub fn collision_extent(part: &[i16], start: i16, end: i16) -> Extent
+    requires { ⌜ Ascends (now part) (length (now part) / 4) ⌝ }
+    ensures { λ r. ⌜ r ≡ extentOf (recs (length (now (part .entry)) / 4) (now (part .entry))) start end ⌝ }
+{
+    let mut k = part.len() / 4;
+    while 0 < k {
+        k -= 1;
+        let begins = number(part, 4 * k + 1);
+        if begins < end {
+            let ends = number(part, 4 * k + 2);
+            if start < ends {
+                return Extent::Ends(ends);
+            }
+            return Extent::Free;
+        }
+    }
+    Extent::Free
+}
+
+// The larger of one track's answer and the answer of others.
+fn larger(extent: Extent, jump: Jump) -> Jump
+    ensures { λ r. ⌜ r ≡ larger extent jump ⌝ }
+{
+    match extent {
+        Extent::Free => jump,
+        Extent::Ends(e) => match jump {
+            Jump::Free => Jump::Next(e),
+            Jump::Next(f) => {
+                if e < f {
+                    return Jump::Next(f);
+                }
+                Jump::Next(e)
+            }
+        },
+    }
+}
+
+// The largest, over the crossed tracks, of the end of the last overlapping record. The records of the crossed tracks stand
+// together in the list; they are taken track by track from behind, so that a track with no record costs nothing.
+pub fn collision_jump(
+    list: &[i16],
+    used: usize,
+    track_start: i16,
+    track_end: i16,
+    start: i16,
+    end: i16,
+) -> Jump
+    requires { ⌜ Holds (now list) used ⌝ }
+    requires { ⌜ «track_start» <ℤ «track_end» ⌝ }
+    ensures { λ r. ⌜ r ≡ collisionJump (recs used (now (list .entry))) «track_start» «track_end» start end ⌝ }
+{
+    let first = lower(list, 0, used, track_start as i32);
+    let mut k = lower(list, first, used, track_end as i32);
+    let mut best = Jump::Free;
+    while first < k {
+        let part = last_track(list, first, k);
+        let extent = collision_extent(part, start, end);
+        best = larger(extent, best);
+        k -= part.len() / 4;
+    }
+    best
+}
+
+// One past the last non-empty track of the span.
+pub fn occupied_track_jump(list: &[i16], used: usize, track_start: i16, track_end: i16) -> Jump
+    requires { ⌜ Holds (now list) used ⌝ }
+    ensures { λ r. ⌜ r ≡ occupiedJump (recs used (now (list .entry))) «track_start» «track_end» ⌝ }
+{
+    let k = lower(list, 0, used, track_end as i32);
+    if k == 0 {
+        return Jump::Free;
+    }
+    let track = number(list, 4 * (k - 1));
+    if track < track_start {
+        return Jump::Free;
+    }
+    Jump::Next(track + 1)
+}
+
+// The first line from `start` on at which an area of `span` lines over the tracks is free, by jumps.
+pub fn first_free(
+    list: &[i16],
+    used: usize,
+    track_start: i16,
+    track_end: i16,
+    start: i16,
+    span: i16,
+) -> i16
+    requires { ⌜ Holds (now list) used ⌝ }
+    requires { ⌜ «track_start» <ℤ «track_end» ⌝ }
+    requires { ⌜ (pos 1 ≤ℤ span) × ((span ≤ℤ pos 10000) × (start ≤ℤ pos 20000)) ⌝ }
+    ensures { λ r. ⌜ collisionJump (recs used (now (list .entry))) «track_start» «track_end» r (r +ℤ span) ≡ J.Free ⌝ }
+    ensures { λ r. ⌜ Searched (recs used (now (list .entry))) «track_start» «track_end» start span r ⌝ }
+{
+    let mut line = start;
+    loop {
+        let jump = collision_jump(list, used, track_start, track_end, line, line + span);
+        let Jump::Next(e) = jump else {
+            return line;
+        };
+        line = e;
+    }
+}
