@@ -161,3 +161,44 @@ halves-length (k ∷ a ∷ b ∷ []) = omega arith
 halves-length (k ∷ a ∷ b ∷ j ∷ []) = omega arith
 halves-length (k ∷ a ∷ b ∷ j ∷ c ∷ []) = omega arith
 halves-length (k ∷ a ∷ b ∷ j ∷ c ∷ d ∷ zs) = let h = halves-length zs in omega arith
+
+-- ---- a refusal by the checks
+
+low : (b : Bool) (y x : Refusal) (o : Option Refusal) → y .number ≤ 6 → (o ≡ some x → x .number ≤ 6) → cond b (some y) o ≡ some x → x .number ≤ 6
+low true y x o h f e = let z : y ≡ x = cc in rw (← z) h
+low false y x o h f e = f e
+
+low-last : (o : Option ℕ) (x : Refusal) → orElse o (λ i. no 6 i) none ≡ some x → x .number ≤ 6
+low-last none x e = absurd (let z : _≡_ {A = ℕ} 0 1 = cc in let y : ⊥ = omega arith in y)
+low-last (some i) x e = let z : record { number = 6; index = i } ≡ x = cc in rw (← z) (omega arith)
+
+-- its number is one of 1 to 6
+pub checked-low : (r : Request) (x : Refusal) → checked r ≡ some x → x .number ≤ 6
+unfolding checked
+checked-low r x e =
+    let n = itemCount r in
+    let o₆ = orElse (badFrom 0 (halves (r .items))) (λ i. no 6 i) none in
+    let o₅ = cond (not (lengthGood (r .lists .columns) && lengthGood (r .lists .rows))) (no 5 0) o₆ in
+    let o₄ = cond (ltb (r .answers) (5 * n)) (no 4 0) o₅ in
+    let o₃ = cond (not (countsGood (r .counts .columns) && countsGood (r .counts .rows))) (no 3 0) o₄ in
+    let o₂ = cond (not (eqb (length (r .items) % 6) 0) || ltb 2000 n) (no 2 0) o₃ in
+    low (ltb 3 (r .flow)) (record { number = 1; index = 0 }) x o₂ (omega arith)
+    (λ e₂. low (not (eqb (length (r .items) % 6) 0) || ltb 2000 n) (record { number = 2; index = 0 }) x o₃ (omega arith)
+    (λ e₃. low (not (countsGood (r .counts .columns) && countsGood (r .counts .rows))) (record { number = 3; index = 0 }) x o₄ (omega arith)
+    (λ e₄. low (ltb (r .answers) (5 * n)) (record { number = 4; index = 0 }) x o₅ (omega arith)
+    (λ e₅. low (not (lengthGood (r .lists .columns) && lengthGood (r .lists .rows))) (record { number = 5; index = 0 }) x o₆ (omega arith)
+    (λ e₆. low-last (badFrom 0 (halves (r .items))) x e₆) e₅) e₄) e₃) e₂) e
+
+-- "an item breaks its rules; the first such index": k counts the items before the list
+pub data FirstBad : ℕ → List (Both Half) → ℕ → Type 0 where
+  bad-here : {k : ℕ} {x : Both Half} {xs : List (Both Half)} → goodItem x ≡ false → FirstBad k (x ∷ xs) k
+  bad-later : {k i : ℕ} {x : Both Half} {xs : List (Both Half)} → goodItem x ≡ true → FirstBad (suc k) xs i → FirstBad k (x ∷ xs) i
+
+pub bad-first : (k : ℕ) (xs : List (Both Half)) (i : ℕ) → badFrom k xs ≡ some i → FirstBad k xs i
+unfolding badFrom
+bad-first k [] i e = absurd (let z : _≡_ {A = ℕ} 0 1 = cc in let y : ⊥ = omega arith in y)
+bad-first k (x ∷ xs) i e = go (goodItem x) refl e (λ h. bad-first (suc k) xs i h)
+  where
+    go : (b : Bool) → goodItem x ≡ b → cond b (badFrom (suc k) xs) (some k) ≡ some i → (badFrom (suc k) xs ≡ some i → FirstBad (suc k) xs i) → FirstBad k (x ∷ xs) i
+    go true f h rest = bad-later f (rest h)
+    go false f h rest = let z : k ≡ i = cc in rw (← z) (bad-here f)

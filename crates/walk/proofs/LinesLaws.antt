@@ -2,7 +2,7 @@
 use mathlib.Core.Path.{_≡_, refl, ap, _∙_}
 use mathlib.Core.Bool.{false, _&&_}
 use native.Mathlib.Omega.{arith}
-use lib.IntN.{ℤ, pos, negsuc}
+use lib.IntN.{pos, negsuc}
 use lib.Signed.{ltZ, _≤ℤ_}
 use Rattle.signed.proofs.Laws.{signed, by-test, neg}
 use Rattle.coordinates.specs.declared.Lines.{Lines}

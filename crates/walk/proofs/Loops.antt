@@ -2,7 +2,6 @@
 use mathlib.Core.Path.{_≡_, refl}
 use mathlib.Core.List.{List, [], _∷_, _++_}
 use Prim.Native.Nat.{ℕ}
-use Rattle.intervals.proofs.Flat as Fl
 use Rattle.walk.specs.declared.Placement.{Placement}
 use Rattle.walk.specs.Axis.{other, on}
 use Rattle.walk.specs.Walk.{Queued, Board, Setting, Run, going, stopped, andThen, each}

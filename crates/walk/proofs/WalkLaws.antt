@@ -150,6 +150,13 @@ pub anyone : (qs : List Queued) → Every (λ (q : Queued). Unit {0}) qs
 anyone [] = nil
 anyone (q ∷ qs) = more tt (anyone qs)
 
+module _ (w : Setting) (qs : List Queued) where
+  pub kept1 : (t b : Board) → Kept t → each w (step1 w) qs t ≡ going b → Kept b
+  kept1 t b k e = each-keeps w (step1 w) (λ _ _ _. Unit {0}) (λ _ x. Kept x) (λ _ i p s x y _ h f. kept-step1 w i p s x y h f) qs 0 t b (anyone qs) k e
+
+  pub kept2 : (t b : Board) → Kept t → each w (step2 w) qs t ≡ going b → Kept b
+  kept2 t b k e = each-keeps w (step2 w) (λ _ _ _. Unit {0}) (λ _ x. Kept x) (λ _ i p s x y _ h f. kept-step2 w i p s x y h f) qs 0 t b (anyone qs) k e
+
 -- what a growth before step 4 must be: the counts stay in their limits, and only grow
 pub record Growing (growth : Both TrackCounts → Both TrackCounts) : Type 0 where
   pub sound : (c : Both TrackCounts) → Each Sound c → Each Sound (growth c)
@@ -170,8 +177,7 @@ module _ (w : Setting) (growth : Both TrackCounts → Both TrackCounts) (G : Gro
   walk-kept t b k e =
       let v = went (each w (step1 w) qs t) (λ b₁. andThen (each w (step2 w) qs b₁) (λ b₂. last4 w qs (begin4 w growth b₂))) b e in
       let u = went (each w (step2 w) qs (v .middle)) (λ b₂. last4 w qs (begin4 w growth b₂)) b (v .second) in
-      let k₁ = each-keeps w (step1 w) (λ _ _ _. Unit {0}) (λ _ x. Kept x) (λ _ i p s x y _ h f. kept-step1 w i p s x y h f) qs 0 t (v .middle) (anyone qs) k (v .first) in
-      let k₂ = each-keeps w (step2 w) (λ _ _ _. Unit {0}) (λ _ x. Kept x) (λ _ i p s x y _ h f. kept-step2 w i p s x y h f) qs 0 (v .middle) (u .middle) (anyone qs) k₁ (u .first) in
+      let k₂ = kept2 w qs (v .middle) (u .middle) (kept1 w qs t (v .middle) k (v .first)) (u .first) in
       let c = begin4 w growth (u .middle) in
       each-keeps w (step4 w (c .cursor)) (λ _ _ _. Unit {0}) (λ _ x. Kept x) (λ _ i p s x y _ h f. kept-step4 w (c .cursor) i p s x y h f) qs 0 c b (anyone qs) (kept-begin4 (u .middle) k₂) (u .second)
 
@@ -255,7 +261,7 @@ pub record Least (c₀ : Both TrackCounts) (b : Board) : Type 0 where
 pub grows-both-trans : (a b c : Both TrackCounts) → GrowsBoth a b → GrowsBoth b c → GrowsBoth a c
 grows-both-trans a b c f g = record { columns = grows-trans (a .columns) (b .columns) (c .columns) (f .columns) (g .columns); rows = grows-trans (a .rows) (b .rows) (c .rows) (f .rows) (g .rows) }
 
-least-laid : (c₀ : Both TrackCounts) (i : ℕ) (h : Choice) (t : Board) → Least c₀ t → Least c₀ (laidOn i h t)
+pub least-laid : (c₀ : Both TrackCounts) (i : ℕ) (h : Choice) (t : Board) → Least c₀ t → Least c₀ (laidOn i h t)
 unfolding laidOn tileOf
 least-laid c₀ i h t k =
     let a = limitedArea (h .area) in
@@ -270,6 +276,10 @@ least-laid c₀ i h t k =
     under d g (more o os) =
         let q = k .least d g os in
         record { columns = grown-least (t .counts .columns) (d .columns) (limitedArea (h .area) .columns) (q .columns) (o .columns); rows = grown-least (t .counts .rows) (d .rows) (limitedArea (h .area) .rows) (q .rows) (o .rows) }
+
+-- on a board with no tiles the counts are their own least
+pub least-none : (t : Board) → t .tiles ≡ [] → Least (t .counts) t
+least-none t z = record { grows = record { columns = grows-refl (t .counts .columns); rows = grows-refl (t .counts .rows) }; covers = rw z nil; least = λ d g _. g }
 
 pub counts-least : (w : Setting) (qs : List Queued) (c₀ : Both TrackCounts) (t b : Board) → Least c₀ t → walk w (λ c. c) qs t ≡ going b → Least c₀ b
 unfolding begin4

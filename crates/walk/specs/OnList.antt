@@ -2,7 +2,7 @@
 -- speak these; that they say what the walk says is proved (`freeIn-is`, `written-is` in proofs/).
 use mathlib.Core.Bool.{Bool, true, not, _&&_}
 use mathlib.Core.List.{List, [], _∷_}
-use Prim.Native.Nat.{ℕ, _*_}
+use Prim.Native.Nat.{_*_}
 use lib.IntN.{ℤ}
 use lib.Seq.{sets}
 use lib.Signed.{ltZ}

@@ -14,7 +14,7 @@ use Rattle.grid_track_counts.specs.declared.TrackCounts.{TrackCounts}
 use Rattle.grid_track_counts.specs.Counts.{countsGood}
 use Rattle.walk.specs.declared.Placement.{Placement}
 use Rattle.walk.specs.declared.Placement.the-variants.{Fixed, Spanned}
-use Rattle.walk.specs.Axis.{col, row, Both, on}
+use Rattle.walk.specs.Axis.{col, row, Both}
 use Rattle.walk.specs.Search.{at, orElse}
 use Rattle.walk.specs.Walk.{Item, Queued, Tile, Board, Setting, Run, going, stopped, recordsOn, walk}
 
@@ -66,6 +66,7 @@ unfoldable pub badFrom : ℕ → List (Both Half) → Option ℕ
 badFrom i [] = none
 badFrom i (x ∷ xs) = cond (goodItem x) (badFrom (suc i) xs) (some i)
 
+-- what an item's three numbers say of one axis
 unfoldable pub placingOf : Half → Placement
 placingOf h = cond (eqZ (h .kind) (pos 0)) (Fixed (lines (h .a) (h .b))) (Spanned (natAbs (h .a)))
 
@@ -74,13 +75,14 @@ itemOf x = record { columns = placingOf (x .columns); rows = placingOf (x .rows)
 
 -- ---- "A placement run checks 1 to 6 in that order"
 
+-- "A list's length is a multiple of 4, at most 1,048,576 numbers."
 unfoldable pub lengthGood : ℕ → Bool
 lengthGood n = eqb (n % 4) 0 && leb n 1048576
 
 abbrev pub itemCount : Request → ℕ
 itemCount r = length (r .items) / itemNumbers
 
--- a refusal's number and its index
+-- a refusal's number and its index: "Where no index is named it is 0"
 pub record Refusal : Type 0 where
   pub number : ℕ
   pub index : ℕ
@@ -88,6 +90,8 @@ pub record Refusal : Type 0 where
 abbrev pub no : ℕ → ℕ → Option Refusal
 no n i = some (record { number = n; index = i })
 
+-- 1 "flow not 0..3"; 2 "item numbers not a multiple of 6, or over 2000 items"; 3 "counts outside the limits"; 4 "answer buffer below 5 numbers an item";
+-- 5 "a list's length is wrong"; 6 "an item breaks its rules; the first such index"
 unfoldable pub checked : Request → Option Refusal
 checked r =
     cond (ltb 3 (r .flow)) (no 1 0)
@@ -113,14 +117,23 @@ unfoldable pub queue : List ℕ → List Item → List Queued
 queue [] xs = []
 queue (i ∷ is) xs = record { index = i; item = getD xs i (record { columns = Spanned 1; rows = Spanned 1 }) } ∷ queue is xs
 
--- "clears both lists and places": no tiles, the request's counts
-abbrev pub emptyBoard : Both TrackCounts → Board
-emptyBoard c = record { tiles = []; counts = c; cursor = at (pos 0) (pos 0) }
+-- the request's items, in document order
+abbrev pub itemsOf : Request → List Item
+itemsOf r = map itemOf (halves (r .items))
+
+abbrev pub queueOf : Request → List Queued
+queueOf r = queue (upTo (length (itemsOf r)) 0) (itemsOf r)
+
+-- "clears both lists and places": no tiles, the request's counts. (The cursor is read before step 4 only.)
+abbrev pub startOf : Request → Board
+startOf r = record { tiles = []; counts = r .counts; cursor = at (pos 0) (pos 0) }
+
+-- the growth before step 4: none
+abbrev pub growthOf : Request → Both TrackCounts → Both TrackCounts
+growthOf r c = c
 
 unfoldable pub runOf : Request → Run
-runOf r =
-    let xs = map itemOf (halves (r .items)) in
-    walk (settingOf r) (λ c. c) (queue (upTo (length xs) 0) xs) (emptyBoard (r .counts))
+runOf r = walk (settingOf r) (growthOf r) (queueOf r) (startOf r)
 
 -- ---- what comes back
 

@@ -2,7 +2,7 @@
 -- keep these rules, and nothing else does: `ruled` and `ruled-only` of proofs/Promises.
 use mathlib.Core.Path.{_≡_}
 use mathlib.Core.Bool.{Bool, true, false, not, _&&_}
-use mathlib.Core.List.{List, [], _∷_}
+use mathlib.Core.List.{List, [], _∷_, _++_}
 use Prim.Native.Nat.{ℕ}
 use lib.IntN.{ℤ, pos, _+ℤ_}
 use lib.Signed.{_≤ℤ_, _<ℤ_}
@@ -76,6 +76,18 @@ pub data Rule4 (w : Setting) (once : Place) (t : Board) : Placement → Placemen
   lays-untested : {n m : ℕ} → overwide n (on (w .axis) (t .counts)) ≡ true
       → Rule4 w once t (Spanned n) (Spanned m) (record { area = laid (w .axis) (from (untested w t .primary) n) (from (untested w t .secondary) m); step = 4; state = w .autoState; flags = 4; cursor = moved w once (from (untested w t .primary) n) (from (untested w t .secondary) m) })
 
+-- "overwide": neither axis is fixed, and the primary span does not fit
+abbrev pub wide : Setting → Board → Placement → Placement → Bool
+wide w t (Fixed p) s = false
+wide w t (Spanned n) (Fixed s) = false
+wide w t (Spanned n) (Spanned m) = overwide n (on (w .axis) (t .counts))
+
+-- by one of the three steps
+pub data Settled (w : Setting) (once : Place) (t : Board) (p s : Placement) (h : Choice) : Type 0 where
+  by1 : Rule1 w t p s h → Settled w once t p s h
+  by2 : Rule2 w t p s h → Settled w once t p s h
+  by4 : Rule4 w once t p s h → Settled w once t p s h
+
 -- ---- one item in one step: it is another step's; or its tile is laid and there is room; or there is none, and the run ends with 7 or 8 and its index
 
 pub data Turn (w : Setting) (mine : Placement → Placement → Bool) (R : Rule) (i : ℕ) (p s : Placement) (t : Board) : Run → Type 0 where
@@ -98,3 +110,30 @@ pub data Walked (w : Setting) (growth : Both TrackCounts → Both TrackCounts) (
   stops2 : {b₁ : Board} {n i : ℕ} → Through w mine1 (Rule1 w) qs t (going b₁) → Through w mine2 (Rule2 w) qs b₁ (stopped n i) → Walked w growth qs t (stopped n i)
   ends : {b₁ b₂ : Board} {r : Run} → Through w mine1 (Rule1 w) qs t (going b₁) → Through w mine2 (Rule2 w) qs b₁ (going b₂)
       → Through w mine4 (Rule4 w (begin4 w growth b₂ .cursor)) qs (begin4 w growth b₂) r → Walked w growth qs t r
+
+-- ---- no room
+
+-- on this board the list that the number names is too short: "7 before 8"
+pub data Short (w : Setting) (b : Board) : ℕ → Type 0 where
+  rows-short : short w row b ≡ true → Short w b 7
+  columns-short : short w row b ≡ false → short w col b ≡ true → Short w b 8
+
+-- a step from the board t comes, after the first items xs, to an item whose tile lacks room
+pub record Lacks (w : Setting) (mine : Placement → Placement → Bool) (R : Rule) (qs : List Queued) (t : Board) (n i : ℕ) : Type 0 where
+  pub xs : List Queued
+  pub item : Queued
+  pub ys : List Queued
+  pub order : qs ≡ xs ++ (item ∷ ys)
+  pub before : Board
+  pub reached : Through w mine R xs t (going before)
+  pub choice : Choice
+  pub settled : R before (on (w .axis) (item .item)) (on (other (w .axis)) (item .item)) choice
+  pub index : item .index ≡ i
+  pub lacks : Short w (laidOn (item .index) choice before) n
+
+-- in one of the three steps
+pub data Full (w : Setting) (growth : Both TrackCounts → Both TrackCounts) (qs : List Queued) (t : Board) (n i : ℕ) : Type 0 where
+  in1 : Lacks w mine1 (Rule1 w) qs t n i → Full w growth qs t n i
+  in2 : {b₁ : Board} → Through w mine1 (Rule1 w) qs t (going b₁) → Lacks w mine2 (Rule2 w) qs b₁ n i → Full w growth qs t n i
+  in4 : {b₁ b₂ : Board} → Through w mine1 (Rule1 w) qs t (going b₁) → Through w mine2 (Rule2 w) qs b₁ (going b₂)
+      → Lacks w mine4 (Rule4 w (begin4 w growth b₂ .cursor)) qs (begin4 w growth b₂) n i → Full w growth qs t n i
