@@ -1,31 +1,28 @@
--- A flat list by the indices of its records, as code reads it, and the list rules there.
-use mathlib.Core.Path.{_≡_, refl, sym, ap, _∙_, subst}
-use mathlib.Core.Bool.{Bool, true, false, not, cond, _&&_, _||_}
+-- A flat list by the places of its records, as code reads it, and the list rules there.
+use mathlib.Core.Path.{_≡_, refl, sym, ap, subst}
+use mathlib.Core.Bool.{true, false, not, _&&_, _||_}
 use mathlib.Core.List.{List, [], _∷_, _++_}
-use mathlib.Core.Logic.{_≢_, _↔_}
+use mathlib.Core.Logic.{_≢_}
 use Prim.Native.Nat.{ℕ, zero, suc, _+_, _-_, _*_, _<_, _≤_}
 use native.Mathlib.Omega.{arith}
 use lib.Dec.{eqb, ltb}
-use lib.ListN.{length, getD, take, drop, replicate, length-append, length-replicate}
+use lib.ListN.{length, getD, replicate, length-append}
 use lib.IntN.{ℤ, pos, negsuc, natAbs}
-use lib.Signed.{ltZ, leZ, nonNeg, _≤ℤ_, _<ℤ_}
+use lib.Signed.{ltZ, nonNeg, _≤ℤ_}
 use borrow.Author.Tests.{eqb-true, eqb-false, eq-eqb, ltb-true, ltb-false}
-use native.Mathlib.Decide.{decLt, ℕ-discrete}
-use borrow.Author.Count.{below-more}
-use Rattle.signed.specs.Parts.{up, dn}
-use Rattle.signed.proofs.Laws.{signed, apart, by-test, g-le-true, g-lt-true}
+use native.Mathlib.Decide.{decLt}
+use Rattle.signed.proofs.Laws.{signed, by-test, g-lt-true}
 use Rattle.intervals.proofs.Line.{Test, yea, nay, test, no-both}
 use Rattle.intervals.specs.Records.{Rec, rec, same}
-use Rattle.intervals.proofs.Grid.{and-l, and-r, and-i, and₃}
+use Rattle.intervals.proofs.Grid.{and-l, and-r, and-i}
 use Rattle.intervals.specs.OverInt.{encode, ok, keeps, decode, flat, isFlat, digits, isZero}
-use Rattle.intervals.proofs.Flat.{parts, length-encode}
-use Rattle.intervals.specs.Flat.{rows}
-use Rattle.intervals.proofs.Index.{Ruled, ruled-keeps, keeps-ruled, flatRows-step, Counted, counted}
+use Rattle.intervals.proofs.Flat.{length-encode}
+use Rattle.intervals.proofs.Index.{ruled-keeps, keeps-ruled, counted}
 use Rattle.intervals.proofs.OverInt.{digit-laws}
-use Rattle.intervals.specs.Lists.{inGrid, allIn, rules, recs, Holds}
+use Rattle.intervals.specs.Lists.{inGrid, allIn, rules, recs, Holds, used, kept}
+use Rattle.intervals.proofs.Lists.{is-in, in-is, all-in, in-all, length-recs, recs-enc, kept-holds}
 use Rattle.cell_occupancy.specs.Calls.{keptOf}
-use Rattle.cell_occupancy.specs.Inner.{T, A, B, S, Good, GoodAt, mayFollow, followAt, Says, Goes, Front, Zeros}
-use Rattle.cell_occupancy.specs.declared.rules.Used.{Used}
+use Rattle.cell_occupancy.specs.Inner.{trackNo, startNo, endNo, stateNo, Good, mayFollow, Goes, Front, Zeros}
 use Rattle.cell_occupancy.specs.declared.rules.Used.the-variants.{Records, Broken}
 
 -- ---- one record
@@ -52,48 +49,7 @@ nz-good (pos n) h = by-test (eqb n 0) (λ b. b ≡ false) (λ e. let q = eqb-tru
 nz-good (negsuc n) h = refl
 
 in-good : {t a b s : ℤ} (v : ℕ) → Good t a b s → inGrid (rec t a b v) ≡ true
-in-good {t} {a} {b} v g =
-    rw (g-le-true (negsuc 9999) t (omega signed), g-le-true t (pos 9999) (omega signed), g-le-true (negsuc 9999) a (omega signed), g-le-true b (pos 10000) (omega signed))
-
-pub record InGrid (t a b : ℤ) : Type 0 where
-  pub t-lo : negsuc 9999 ≤ℤ t
-  pub t-hi : t ≤ℤ pos 9999
-  pub lo : negsuc 9999 ≤ℤ a
-  pub hi : b ≤ℤ pos 10000
-
-pub in-is : (t a b : ℤ) (v : ℕ) → inGrid (rec t a b v) ≡ true → InGrid t a b
-in-is t a b v h =
-    let p = leZ (negsuc 9999) a && leZ b (pos 10000) in
-    let j = and₃ (leZ (negsuc 9999) t) (leZ t (pos 9999)) p h in
-    let x = j .0 in
-    let y = j .1 in
-    let z = and-l (leZ (negsuc 9999) a) (leZ b (pos 10000)) (j .2) in
-    let w = and-r (leZ (negsuc 9999) a) (leZ b (pos 10000)) (j .2) in
-    record { t-lo = omega signed; t-hi = omega signed; lo = omega signed; hi = omega signed }
-
--- ---- the records of a flat list
-
-pub length-rows : {Z : Type 0} (n : ℕ) (t a b : ℕ → Z) (s : ℕ → ℕ) → length (rows n t a b s) ≡ n
-length-rows zero t a b s = refl
-length-rows (suc n) t a b s = ap suc (length-rows n (λ i. t (suc i)) (λ i. a (suc i)) (λ i. b (suc i)) (λ i. s (suc i)))
-
-pub length-recs : (n : ℕ) (l : List ℤ) → length (recs n l) ≡ n
-length-recs n l = length-rows n (T l) (A l) (B l) (λ i. natAbs (S l i))
-
-pub recs-enc : (rs : List (Rec ℤ)) (z : List ℤ) → recs (length rs) (encode rs ++ z) ≡ rs
-recs-enc [] z = refl
-recs-enc (rec t a b s ∷ rs) z = flatRows-step digits (length rs) t a b (pos s) (encode rs ++ z) ∙ ap (λ (r : List (Rec ℤ)). rec t a b s ∷ r) (recs-enc rs z)
-
-all-in : (n : ℕ) (t a b : ℕ → ℤ) (s : ℕ → ℕ) → ((i : ℕ) → i < n → inGrid (rec (t i) (a i) (b i) (s i)) ≡ true) → allIn (rows n t a b s) ≡ true
-all-in zero t a b s h = refl
-all-in (suc n) t a b s h = and-i (h 0 (omega arith)) (all-in n (λ i. t (suc i)) (λ i. a (suc i)) (λ i. b (suc i)) (λ i. s (suc i)) (λ i k. h (suc i) (omega arith)))
-
-in-all : (n : ℕ) (t a b : ℕ → ℤ) (s : ℕ → ℕ) → allIn (rows n t a b s) ≡ true → (i : ℕ) → i < n → inGrid (rec (t i) (a i) (b i) (s i)) ≡ true
-in-all zero t a b s h i k = absurd (omega arith)
-in-all (suc n) t a b s h zero k = and-l (inGrid (rec (t 0) (a 0) (b 0) (s 0))) (allIn (rows n (λ i. t (suc i)) (λ i. a (suc i)) (λ i. b (suc i)) (λ i. s (suc i)))) h
-in-all (suc n) t a b s h (suc i) k =
-    in-all n (λ i. t (suc i)) (λ i. a (suc i)) (λ i. b (suc i)) (λ i. s (suc i))
-    (and-r (inGrid (rec (t 0) (a 0) (b 0) (s 0))) (allIn (rows n (λ i. t (suc i)) (λ i. a (suc i)) (λ i. b (suc i)) (λ i. s (suc i)))) h) i (omega arith)
+in-good {t} {a} {b} v g = is-in t a b v (record { t-lo = g .t-lo; t-hi = g .t-hi; lo = g .lo; hi = g .hi })
 
 -- ---- the rules by index, and back
 
@@ -113,21 +69,21 @@ same-state (negsuc s) v h k = absurd (omega signed)
 pub front-rules : {l : List ℤ} {n : ℕ} → Front l n → rules (recs n l) ≡ true
 front-rules {l} {n} f =
     and-i
-    (ruled-keeps ltZ ok n (T l) (A l) (B l) (λ i. natAbs (S l i)) (record {
-      each = λ i h. let g = f .each i h .good in g-lt-true (A l i) (B l i) (omega signed);
-      okay = λ i h. ok-good (S l i) (f .each i h .good .s-lo) (f .each i h .good .s-hi);
-      pair = λ i h. rw (← (same-state (S l i) (S l (suc i)) (f .each i (omega arith) .good .s-lo) (f .each (suc i) h .good .s-lo))) (f .each (suc i) h .next i refl);
+    (ruled-keeps ltZ ok n (trackNo l) (startNo l) (endNo l) (λ i. natAbs (stateNo l i)) (record {
+      each = λ i h. let g = f .each i h .good in g-lt-true (startNo l i) (endNo l i) (omega signed);
+      okay = λ i h. ok-good (stateNo l i) (f .each i h .good .s-lo) (f .each i h .good .s-hi);
+      pair = λ i h. rw (← (same-state (stateNo l i) (stateNo l (suc i)) (f .each i (omega arith) .good .s-lo) (f .each (suc i) h .good .s-lo))) (f .each (suc i) h .next i refl);
     }))
-    (all-in n (T l) (A l) (B l) (λ i. natAbs (S l i)) (λ i h. in-good (natAbs (S l i)) (f .each i h .good)))
+    (all-in n (trackNo l) (startNo l) (endNo l) (λ i. natAbs (stateNo l i)) (λ i h. in-good (natAbs (stateNo l i)) (f .each i h .good)))
 
-pub rules-front : (l : List ℤ) (n : ℕ) → 4 * n ≤ length l → rules (recs n l) ≡ true → ((i : ℕ) → i < n → nonNeg (S l i) ≡ true) → Front l n
+pub rules-front : (l : List ℤ) (n : ℕ) → 4 * n ≤ length l → rules (recs n l) ≡ true → ((i : ℕ) → i < n → nonNeg (stateNo l i) ≡ true) → Front l n
 rules-front l n m h p =
     let k = keeps (recs n l) in
-    let r = keeps-ruled ltZ ok n (T l) (A l) (B l) (λ i. natAbs (S l i)) (and-l k (allIn (recs n l)) h) in
-    let g = in-all n (T l) (A l) (B l) (λ i. natAbs (S l i)) (and-r k (allIn (recs n l)) h) in
-    let o : (i : ℕ) → i < n → Good (T l i) (A l i) (B l i) (S l i) = λ i q.
-    let x = in-is (T l i) (A l i) (B l i) (natAbs (S l i)) (g i q) in
-    let y = good-ok (S l i) (p i q) (r .okay i q) in
+    let r = keeps-ruled ltZ ok n (trackNo l) (startNo l) (endNo l) (λ i. natAbs (stateNo l i)) (and-l k (allIn (recs n l)) h) in
+    let g = in-all n (trackNo l) (startNo l) (endNo l) (λ i. natAbs (stateNo l i)) (and-r k (allIn (recs n l)) h) in
+    let o : (i : ℕ) → i < n → Good (trackNo l i) (startNo l i) (endNo l i) (stateNo l i) = λ i q.
+    let x = in-is (trackNo l i) (startNo l i) (endNo l i) (natAbs (stateNo l i)) (g i q) in
+    let y = good-ok (stateNo l i) (p i q) (r .okay i q) in
     let z = r .each i q in
     record { t-lo = x .t-lo; t-hi = x .t-hi; lo = x .lo; order = omega signed; hi = x .hi; s-lo = y .0; s-hi = y .1 } in
     record {
@@ -135,15 +91,15 @@ rules-front l n m h p =
       each = λ i q. record {
         good = o i q;
         next = λ j e.
-            let w : mayFollow (T l j) (B l j) (S l j) (T l (suc j)) (A l (suc j)) (S l (suc j)) ≡ true =
-            rw (same-state (S l j) (S l (suc j)) (o j (omega arith) .s-lo) (o (suc j) (omega arith) .s-lo)) (r .pair j (omega arith)) in
-            subst (λ (m : ℕ). mayFollow (T l j) (B l j) (S l j) (T l m) (A l m) (S l m) ≡ true) e w;
+            let w : mayFollow (trackNo l j) (endNo l j) (stateNo l j) (trackNo l (suc j)) (startNo l (suc j)) (stateNo l (suc j)) ≡ true =
+            rw (same-state (stateNo l j) (stateNo l (suc j)) (o j (omega arith) .s-lo) (o (suc j) (omega arith) .s-lo)) (r .pair j (omega arith)) in
+            subst (λ (m : ℕ). mayFollow (trackNo l j) (endNo l j) (stateNo l j) (trackNo l m) (startNo l m) (stateNo l m) ≡ true) e w;
       };
     }
 
 -- ---- a list that holds n records
 
-enc-state : (rs : List (Rec ℤ)) (z : List ℤ) (i : ℕ) → i < length rs → nonNeg (S (encode rs ++ z) i) ≡ true
+enc-state : (rs : List (Rec ℤ)) (z : List ℤ) (i : ℕ) → i < length rs → nonNeg (stateNo (encode rs ++ z) i) ≡ true
 enc-state [] z i h = absurd (omega arith)
 enc-state (rec t a b s ∷ rs) z zero h = refl
 enc-state (rec t a b s ∷ rs) z (suc i) h =
@@ -187,8 +143,8 @@ zero-is z e = rw e
 both-flat : {l : List ℤ} {n : ℕ} → Both l n → (decode l ≡ recs n l) × (isFlat l ≡ true)
 both-flat {l} {n} b = counted digits n l (record {
   room = b .front .room;
-  used = λ i h. nz-good (S l i) (b .front .each i h .good .s-lo);
-  state = λ i h. nn-good (S l i) (b .front .each i h .good .s-lo);
+  used = λ i h. nz-good (stateNo l i) (b .front .each i h .good .s-lo);
+  state = λ i h. nn-good (stateNo l i) (b .front .each i h .good .s-lo);
   free = λ j h k. zero-is (getD l j (pos 0)) (b .zeros j h k);
 })
 
@@ -198,21 +154,6 @@ both-kept {l} {n} b =
     let q = both-flat b in
     rw (q .1, q .0, front-rules (b .front)) (ap Records (length-recs n l))
 
--- a list whose flat form keeps the rules
-flat-both : (l : List ℤ) → isFlat l ≡ true → rules (decode l) ≡ true → Both l (length (decode l))
-flat-both l f h =
-    let (k, p) = parts digits digit-laws l f in
-    subst (λ (x : List ℤ). Both x (length (decode l))) (sym p) (laid-both (decode l) k h)
-
-pub both-holds : {l : List ℤ} {n : ℕ} → Both l n → Holds l n
-both-holds {l} {n} b =
-    let q = both-flat b in
-    let (k, p) = parts digits digit-laws l (q .1) in
-    let x : l ≡ encode (recs n l) ++ replicate k (pos 0) = p ∙ ap (λ (r : List (Rec ℤ)). encode r ++ replicate k (pos 0)) (q .0) in
-    let y : length l ≡ length (encode (recs n l)) + k = ap length x ∙ simp (length-append, length-replicate) refl in
-    let e : k ≡ length l - length (encode (recs n l)) = omega arith in
-    record { keep = front-rules (b .front); laid = x ∙ ap (λ (m : ℕ). encode (recs n l) ++ replicate m (pos 0)) e }
-
 -- the answer by cases: a list is one of n records, or broken
 pub data Answer (l : List ℤ) : Type 0 where
   holds : (n : ℕ) → Both l n → keptOf l ≡ Records n → Answer l
@@ -220,10 +161,10 @@ pub data Answer (l : List ℤ) : Type 0 where
 
 pub answer : (l : List ℤ) → Answer l
 unfolding keptOf
-answer l = go (test (isFlat l && rules (decode l)))
+answer l = go (test (kept l))
   where
-    go : Test (isFlat l && rules (decode l)) → Answer l
-    go (yea e) = let b = flat-both l (and-l (isFlat l) (rules (decode l)) e) (and-r (isFlat l) (rules (decode l)) e) in holds (length (decode l)) b (both-kept b)
+    go : Test (kept l) → Answer l
+    go (yea e) = let b = holds-both (kept-holds l e) in holds (used l) b (both-kept b)
     go (nay e) = broken (rw e)
 
 more-goes : {l : List ℤ} {m n : ℕ} → Front l m → n < m → Goes l n
@@ -245,51 +186,5 @@ front-broken {l} {n} f stop z = go (answer l)
         by (no h) (yes k) = not-zero-good (f .each m k .good) (b .zeros (4 * m + 3) (omega arith) (omega (arith, f .room)))
         by (no h) (no k) = let e : m ≡ n = omega arith in z (subst (λ (x : ℕ). Zeros l (4 * x)) e (b .zeros))
 
--- ---- for the loops
-
-pub zero-more : (l : List ℤ) (from i : ℕ) → ((j : ℕ) → from ≤ j → j < i → getD l j (pos 0) ≡ pos 0) → getD l i (pos 0) ≡ pos 0
-    → (j : ℕ) → from ≤ j → j < i + 1 → getD l j (pos 0) ≡ pos 0
-zero-more l from i h e j a b = go (ℕ-discrete j i)
-  where
-    go : Dec (j ≡ i) → getD l j (pos 0) ≡ pos 0
-    go (yes q) = rw q e
-    go (no q) = h j a (omega arith)
-
-pub front-none : (l : List ℤ) → Front l 0
-front-none l = record { room = omega arith; each = λ i h. absurd (omega arith) }
-
-pub front-more : {l : List ℤ} {n : ℕ} → Front l n → 4 * n + 4 ≤ length l → Goes l n → Front l (n + 1)
-front-more {l} {n} f h g = record { room = omega arith; each = below-more (λ i. Goes l i) n (f .each) g }
-
-pub says-yes : (b : Bool) (P : Type 0) → Says b P → b ≡ true → P
-says-yes b P h e = subst (λ (x : Bool). Says x P) e h
-
-pub says-no : (b : Bool) (P : Type 0) → Says b P → b ≡ false → P → ⊥
-says-no b P h e = subst (λ (x : Bool). Says x P) e h
-
--- after `if !b { return .. }`
-pub says-past : (b : Bool) (P : Type 0) → Says b P → not b ≡ false → P
-says-past true P h e = h
-says-past false P h e = no-both refl e
-
-pub says-not : (b : Bool) (P : Type 0) → Says b P → not b ≡ true → P → ⊥
-says-not true P h e = no-both e refl
-says-not false P h e = h
-
-pub goes-first : {l : List ℤ} {i : ℕ} → i ≡ 0 → GoodAt l (4 * i) → Goes l i
-goes-first e g = record { good = g; next = λ k f. absurd (omega arith) }
-
-pub goes-next : {l : List ℤ} {i : ℕ} → 0 < i → GoodAt l (4 * i) → followAt l (4 * i - 4) (4 * i - 4 + 4) ≡ true → Goes l i
-goes-next {l} {i} p g h = record { good = g; next = λ k e. let x : 4 * i - 4 ≡ 4 * k = omega arith in let y : 4 * i - 4 + 4 ≡ 4 * i = omega arith in (λ j. followAt l (sym x j) (sym y j)) ∙ h }
-
-pub goes-not : {l : List ℤ} {i : ℕ} → 0 < i → followAt l (4 * i - 4) (4 * i - 4 + 4) ≡ false → Goes l i → ⊥
-goes-not {l} {i} p h g =
-    let x : 4 * i - 4 ≡ 4 * (i - 1) = omega arith in
-    let y : 4 * i - 4 + 4 ≡ 4 * i = omega arith in
-    no-both ((λ j. followAt l (x j) (y j)) ∙ g .next (i - 1) (omega arith)) h
-
 pub holds-front : {l : List ℤ} {n : ℕ} → Holds l n → Front l n
 holds-front h = holds-both h .front
-
-pub holds-room : {l : List ℤ} {n : ℕ} → Holds l n → 4 * n ≤ length l
-holds-room h = holds-both h .front .room

@@ -1,30 +1,31 @@
 -- The two jumps, over the tracks of a span.
-use mathlib.Core.Path.{_≡_, refl, sym, ap, _∙_}
-use mathlib.Core.Bool.{Bool, true, false, cond}
-use mathlib.Core.List.{List, [], _∷_, _++_, append-nil}
+use mathlib.Core.Path.{_≡_, refl, sym, ap, _∙_, subst}
+use mathlib.Core.Bool.{true, false}
+use mathlib.Core.List.{List, [], append-nil}
 use Prim.Native.Nat.{ℕ, zero, suc, _+_, _-_, _*_, _/_, _<_, _≤_}
 use native.Mathlib.Omega.{arith}
 use native.Mathlib.Decide.{decLt}
-use lib.ListN.{length}
-use lib.IntN.{ℤ, pos, negsuc, natAbs, _+ℤ_}
+use lib.ListN.{length, drop, length-drop}
+use lib.Seq.{length-take-le}
+use lib.IntN.{ℤ, pos, natAbs, _+ℤ_}
 use lib.Signed.{ltZ, _≤ℤ_, _<ℤ_}
-use Rattle.signed.specs.Parts.{up, dn, gap}
+use Rattle.signed.specs.Parts.{gap}
 use Rattle.signed.proofs.Laws.{signed, sum, g-lt-true, g-lt-false}
 use Rattle.intervals.proofs.Line.{Test, yea, nay, test}
-use Rattle.intervals.specs.Records.{Rec, rec, same}
+use Rattle.intervals.specs.Records.{Rec, same}
 use Rattle.intervals.specs.Flat.{rows}
 use Rattle.intervals.specs.OverInt.{encode, digits, span}
 use Rattle.intervals.proofs.Flat.{length-encode}
 use Rattle.intervals.proofs.OverInt.{digit-laws}
-use Rattle.intervals.specs.Lists.{recs, onTrack}
+use Rattle.intervals.specs.Lists.{recs, onTrack, Holds}
 use Rattle.cell_occupancy.specs.Calls.{extentOf, larger, over, collisionJump, pastTrack, orNext, occupiedJump}
-use Rattle.cell_occupancy.specs.Inner.{T, A, B, S, Front, Split, Clip}
+use Rattle.cell_occupancy.specs.Inner.{trackNo, startNo, endNo, stateNo, Front, Split, Part, Tail}
 use Rattle.cell_occupancy.specs.declared.jumps.Extent.{Extent}
 use Rattle.cell_occupancy.specs.declared.jumps.Extent.the-variants as X
 use Rattle.cell_occupancy.specs.declared.jumps.Jump.{Jump}
 use Rattle.cell_occupancy.specs.declared.jumps.Jump.the-variants as J
-use Rattle.cell_occupancy.proofs.ByIndex.{recs-enc}
-use Rattle.cell_occupancy.proofs.Sorted.{sorted, none-on, not-same, not-same₂, is-same}
+use Rattle.intervals.proofs.Lists.{recs-enc}
+use Rattle.cell_occupancy.proofs.Sorted.{sorted, none-on, not-same, not-same₂, is-same, cut-is}
 use Rattle.intervals.proofs.Spans.{span-none, span-cons}
 use Rattle.cell_occupancy.proofs.Over.{skip-front, skip-back, all-free}
 
@@ -41,32 +42,94 @@ jump-turn rs t u hi a b part best e h p q =
     (λ i. larger (extentOf (recs-part part (onTrack u rs) p i) a b) (q i))
     ∙ sym (ap (over (λ t j. larger (extentOf (onTrack t rs) a b) j)) (span-cons u t hi (sym e) (omega signed)))
 
--- tracks outside the limited grid have no record
-off-low : {l : List ℤ} {n : ℕ} → Front l n → (t : ℤ) → t <ℤ negsuc 9999 → onTrack t (recs n l) ≡ []
-off-low {l} {n} f t h = none-on t n (T l) (A l) (B l) (λ i. natAbs (S l i)) (λ i k. not-same₂ t (T l i) (let g = f .each i k .good in omega signed))
-
-off-high : {l : List ℤ} {n : ℕ} → Front l n → (t : ℤ) → pos 10000 ≤ℤ t → onTrack t (recs n l) ≡ []
-off-high {l} {n} f t h = none-on t n (T l) (A l) (B l) (λ i. natAbs (S l i)) (λ i k. not-same t (T l i) (let g = f .each i k .good in omega signed))
-
--- so the span may be limited
-module _ (f : ℤ → Jump → Jump) (low : (t : ℤ) → t <ℤ negsuc 9999 → (j : Jump) → f t j ≡ j) (high : (t : ℤ) → pos 10000 ≤ℤ t → (j : Jump) → f t j ≡ j) where
-  over-clip : (t₁ t₂ c₁ c₂ : ℤ) → t₁ <ℤ t₂ → Clip t₁ c₁ → Clip t₂ c₂ → over f (span c₁ c₂) ≡ over f (span t₁ t₂)
-  over-clip t₁ t₂ c₁ c₂ h k₁ k₂ = go (decLt (10000 + dn t₁) (up t₁)) (decLt (up t₂ + 10000) (dn t₂))
-    where
-      go : Dec (10000 + dn t₁ < up t₁) → Dec (up t₂ + 10000 < dn t₂) → over f (span c₁ c₂) ≡ over f (span t₁ t₂)
-      go (yes x) y = ap (over f) (span-none c₁ c₂ (omega signed)) ∙ sym (all-free f t₁ t₂ (λ t p q. high t (omega signed)))
-      go (no x) (yes y) = ap (over f) (span-none c₁ c₂ (omega signed)) ∙ sym (all-free f t₁ t₂ (λ t p q. low t (omega signed)))
-      go (no x) (no y) =
-          sym (skip-front f t₁ c₁ t₂ (omega signed) (λ t p q. low t (omega signed)) ∙ skip-back f c₁ c₂ t₂ (omega signed) (λ t p q. high t (omega signed)))
-
-pub jump-clip : {l : List ℤ} {n : ℕ} → Front l n → (a b t₁ t₂ c₁ c₂ : ℤ) → t₁ <ℤ t₂ → Clip t₁ c₁ → Clip t₂ c₂ → collisionJump (recs n l) c₁ c₂ a b ≡ collisionJump (recs n l) t₁ t₂ a b
-jump-clip {l} {n} f a b =
-    over-clip (λ t j. larger (extentOf (onTrack t (recs n l)) a b) j)
-    (λ t h j. ap (λ (r : List (Rec ℤ)). larger (extentOf r a b) j) (off-low f t h))
-    (λ t h j. ap (λ (r : List (Rec ℤ)). larger (extentOf r a b) j) (off-high f t h))
-
 pub jump-none : (rs : List (Rec ℤ)) (t a b : ℤ) → collisionJump rs t t a b ≡ J.Free
 jump-none rs t a b = ap (over (λ t j. larger (extentOf (onTrack t rs) a b) j)) (span-none t t (omega signed))
+
+-- ---- tracks with no record
+
+-- those from u on below v, where the records before k are below u and the others are not below v
+no-record : {l : List ℤ} {n : ℕ} (u v : ℤ) (k : ℕ) → Split l n v k → ((i : ℕ) → i < k → trackNo l i <ℤ u) → (t : ℤ) → u ≤ℤ t → t <ℤ v → onTrack t (recs n l) ≡ []
+no-record {l} {n} u v k s b t p q = none-on t n (trackNo l) (startNo l) (endNo l) (λ i. natAbs (stateNo l i)) (λ i h. go i h (decLt i k))
+  where
+    go : (i : ℕ) → i < n → Dec (i < k) → same ltZ t (trackNo l i) ≡ false
+    go i h (yes x) = not-same t (trackNo l i) (let y = b i x in omega signed)
+    go i h (no x) = not-same₂ t (trackNo l i) (let y = s .above i (omega arith) h in omega signed)
+
+jump-skip : {l : List ℤ} {n : ℕ} (u v t₂ a b : ℤ) (k : ℕ) → u ≤ℤ v → Split l n v k → ((i : ℕ) → i < k → trackNo l i <ℤ u) → collisionJump (recs n l) u t₂ a b ≡ collisionJump (recs n l) v t₂ a b
+jump-skip {l} {n} u v t₂ a b k h s f =
+    skip-front (λ t j. larger (extentOf (onTrack t (recs n l)) a b) j) u v t₂ h (λ t p q j. ap (λ (r : List (Rec ℤ)). larger (extentOf r a b) j) (no-record u v k s f t p q))
+
+-- ---- the crossed tracks from behind
+
+-- the jump over the tracks from `line` on, before which the first k records stand
+pub record SoFar (l : List ℤ) (n : ℕ) (t₁ t₂ a b : ℤ) (k : ℕ) (best : Jump) : Type 0 where
+  pub line : ℤ
+  pub low : t₁ ≤ℤ line
+  pub high : line ≤ℤ t₂
+  pub split : Split l n line k
+  pub jump : best ≡ collisionJump (recs n l) line t₂ a b
+
+pub start-far : (l : List ℤ) (n : ℕ) (t₁ t₂ a b : ℤ) (k : ℕ) → t₁ ≤ℤ t₂ → Split l n t₂ k → SoFar l n t₁ t₂ a b k J.Free
+start-far l n t₁ t₂ a b k h s = record { line = t₂; low = h; high = omega signed; split = s; jump = sym (jump-none (recs n l) t₂ a b) }
+
+module _ {l : List ℤ} {n : ℕ} {t₁ t₂ a b : ℤ} {k from : ℕ} {best : Jump} (f : Front l n) (v : SoFar l n t₁ t₂ a b k best) (s : Split l n t₁ from) (h : from < k) where
+  -- the next track is one of those that are crossed
+  pub next-low : t₁ ≤ℤ trackNo l (k - 1)
+  next-low = s .above (k - 1) (omega arith) (omega (arith, v .split .within))
+
+  pub next-before : (i : ℕ) → i < from → trackNo l i <ℤ trackNo l (k - 1)
+  next-before i q = let x = s .below i q in let y = next-low in omega signed
+
+  pub next-front : Front l k
+  next-front = record { room = omega (arith, f .room, v .split .within); each = λ i q. f .each i (omega (arith, v .split .within)) }
+
+  pub next-part : {part : List ℤ} → Tail l from k part → Part l n (trackNo l (k - 1)) part
+  next-part w = record {
+    from = w .at;
+    to = k;
+    order = w .begins .within;
+    begins = record { within = omega (arith, w .begins .within, v .split .within); below = w .begins .below; above = λ i p q. go i p q (decLt i k) };
+    ends = record {
+      within = v .split .within;
+      below = λ i p. let x = sorted f i (k - 1) (omega arith) (omega (arith, v .split .within)) in omega signed;
+      above = λ i p q. let x = v .split .above i p q in let y = v .split .below (k - 1) (omega arith) in omega signed;
+    };
+    cut = w .cut;
+  }
+    where
+      go : (i : ℕ) → w .at ≤ i → i < n → Dec (i < k) → trackNo l (k - 1) ≤ℤ trackNo l i
+      go i p q (yes x) = w .begins .above i p x
+      go i p q (no x) = sorted f (k - 1) i (omega arith) q
+
+  pub next-at : {part : List ℤ} (w : Tail l from k part) → length part / 4 + w .at ≡ k
+  next-at {part} w = omega (arith, ap length (w .cut), length-take-le (4 * k - 4 * w .at) (drop (4 * w .at) l) (omega (arith, length-drop (4 * w .at) l, f .room, v .split .within)), w .begins .within)
+
+  pub next-less : {part : List ℤ} (w : Tail l from k part) → w .at < k
+  next-less w = go (decLt (w .at) k)
+    where
+      go : Dec (w .at < k) → w .at < k
+      go (yes x) = x
+      go (no x) = let y = w .begins .below (k - 1) (omega arith) in absurd (omega signed)
+
+  pub next-far : {part : List ℤ} {more : Jump} → Holds l n → Tail l from k part → more ≡ larger (extentOf (recs (length part / 4) part) a b) best → SoFar l n t₁ t₂ a b (k - length part / 4) more
+  unfolding next-part
+  next-far {part} o w m =
+      let u : ℤ = trackNo l (k - 1) in
+      let p = next-part w in
+      let x = v .split .below (k - 1) (omega arith) in
+      let y = v .high in
+      let e : w .at ≡ k - length part / 4 = omega (arith, next-at w) in
+      let j : best ≡ collisionJump (recs n l) (u +ℤ pos 1) t₂ a b = v .jump ∙ sym (jump-skip (u +ℤ pos 1) (v .line) t₂ a b k (omega signed) (v .split) (p .ends .below)) in
+      record {
+        line = u;
+        low = next-low;
+        high = omega signed;
+        split = subst (λ (m : ℕ). Split l n u m) e (p .begins);
+        jump = m ∙ jump-turn (recs n l) (u +ℤ pos 1) u t₂ a b part best refl (omega signed) (p .cut ∙ cut-is l n u (u +ℤ pos 1) (p .from) (p .to) o refl (p .begins) (p .ends) (p .order)) j;
+      }
+
+pub all-far : {l : List ℤ} {n : ℕ} {t₁ t₂ a b : ℤ} {k from : ℕ} {best : Jump} → SoFar l n t₁ t₂ a b k best → Split l n t₁ from → k ≡ from → best ≡ collisionJump (recs n l) t₁ t₂ a b
+all-far {l} {n} {t₁} {t₂} {a} {b} {k} {from} v s e = v .jump ∙ sym (jump-skip t₁ (v .line) t₂ a b k (v .low) (v .split) (λ i q. s .below i (omega arith)))
 
 -- ---- the larger of two
 pub larger-jump : {x : Extent} {j : Jump} (e f : ℤ) → x ≡ X.Ends e → j ≡ J.Next f → e <ℤ f → J.Next f ≡ larger x j
@@ -98,19 +161,11 @@ module _ {l : List ℤ} {n : ℕ} (f : Front l n) where
   abbrev past : ℤ → Jump → Jump
   past t j = orNext j (pastTrack (onTrack t (recs n l)) t)
 
-  no-track : (t : ℤ) → ((i : ℕ) → i < n → same ltZ t (T l i) ≡ false) → (j : Jump) → past t j ≡ j
-  no-track t h j = ap (λ (r : List (Rec ℤ)). orNext j (pastTrack r t)) (none-on t n (T l) (A l) (B l) (λ i. natAbs (S l i)) h) ∙ or-free j
+  empty-past : (u v : ℤ) (k : ℕ) → Split l n v k → ((i : ℕ) → i < k → trackNo l i <ℤ u) → (t : ℤ) → u ≤ℤ t → t <ℤ v → (j : Jump) → past t j ≡ j
+  empty-past u v k s b t p q j = ap (λ (r : List (Rec ℤ)). orNext j (pastTrack r t)) (no-record u v k s b t p q) ∙ or-free j
 
-  -- the tracks from u on below t₂, where the records below k are below u and the others are not below t₂
-  between-empty : (u t₂ : ℤ) (k : ℕ) → Split l n t₂ k → ((i : ℕ) → i < k → T l i <ℤ u) → (t : ℤ) → u ≤ℤ t → t <ℤ t₂ → (j : Jump) → past t j ≡ j
-  between-empty u t₂ k s b t p q = no-track t (λ i h. go i h (decLt i k))
-    where
-      go : (i : ℕ) → i < n → Dec (i < k) → same ltZ t (T l i) ≡ false
-      go i h (yes x) = not-same t (T l i) (let y = b i x in omega signed)
-      go i h (no x) = not-same₂ t (T l i) (let y = s .above i (omega arith) h in omega signed)
-
-  pub occupied-none : (t₁ t₂ : ℤ) (k : ℕ) → Split l n t₂ k → ((i : ℕ) → i < k → T l i <ℤ t₁) → occupiedJump (recs n l) t₁ t₂ ≡ J.Free
-  occupied-none t₁ t₂ k s b = all-free past t₁ t₂ (between-empty t₁ t₂ k s b)
+  pub occupied-none : (t₁ t₂ : ℤ) (k : ℕ) → Split l n t₂ k → ((i : ℕ) → i < k → trackNo l i <ℤ t₁) → occupiedJump (recs n l) t₁ t₂ ≡ J.Free
+  occupied-none t₁ t₂ k s b = all-free past t₁ t₂ (empty-past t₁ t₂ k s b)
 
   up-to : (m : ℕ) (a u : ℤ) → gap a u ≤ m → a ≤ℤ u → past u J.Free ≡ J.Next (u +ℤ pos 1) → over past (span a (u +ℤ pos 1)) ≡ J.Next (u +ℤ pos 1)
   up-to zero a u g h e =
@@ -123,9 +178,9 @@ module _ {l : List ℤ} {n : ℕ} (f : Front l n) where
           rw q (ap (over past) (span-cons u (u +ℤ pos 1) (u +ℤ pos 1) refl (omega (signed, sum u (pos 1)))) ∙ ap (past u) (ap (over past) (span-none (u +ℤ pos 1) (u +ℤ pos 1) (omega (signed, sum u (pos 1))))) ∙ e)
       go (yes x) r = ap (over past) (span-cons a (a +ℤ pos 1) (u +ℤ pos 1) refl (omega (signed, sum u (pos 1)))) ∙ ap (past a) (r (omega (signed, sum a (pos 1))) (omega signed))
 
-  pub occupied-some : (t₁ t₂ : ℤ) (k m : ℕ) → Split l n t₂ k → k ≡ suc m → t₁ ≤ℤ T l m → occupiedJump (recs n l) t₁ t₂ ≡ J.Next (T l m +ℤ pos 1)
+  pub occupied-some : (t₁ t₂ : ℤ) (k m : ℕ) → Split l n t₂ k → k ≡ suc m → t₁ ≤ℤ trackNo l m → occupiedJump (recs n l) t₁ t₂ ≡ J.Next (trackNo l m +ℤ pos 1)
   occupied-some t₁ t₂ k m s e h =
       let x = s .below m (omega arith) in
-      let last : (i : ℕ) → i < k → T l i <ℤ (T l m +ℤ pos 1) = λ i q. let y = sorted f i m (omega arith) (omega (arith, s .within)) in omega signed in
-      skip-back past t₁ (T l m +ℤ pos 1) t₂ (omega signed) (between-empty (T l m +ℤ pos 1) t₂ k s last)
-      ∙ up-to (gap t₁ (T l m)) t₁ (T l m) (omega arith) h (some-on (T l m) n (T l) (A l) (B l) (λ i. natAbs (S l i)) m (omega (arith, s .within)) (is-same (T l m) (T l m) (omega signed) (omega signed)))
+      let last : (i : ℕ) → i < k → trackNo l i <ℤ (trackNo l m +ℤ pos 1) = λ i q. let y = sorted f i m (omega arith) (omega (arith, s .within)) in omega signed in
+      skip-back past t₁ (trackNo l m +ℤ pos 1) t₂ (omega signed) (empty-past (trackNo l m +ℤ pos 1) t₂ k s last)
+      ∙ up-to (gap t₁ (trackNo l m)) t₁ (trackNo l m) (omega arith) h (some-on (trackNo l m) n (trackNo l) (startNo l) (endNo l) (λ i. natAbs (stateNo l i)) m (omega (arith, s .within)) (is-same (trackNo l m) (trackNo l m) (omega signed) (omega signed)))

@@ -1,22 +1,21 @@
 -- The last overlapping record of a list of records, from behind.
-use mathlib.Core.Path.{_≡_, refl, sym, ap, _∙_}
-use mathlib.Core.Bool.{Bool, true, false, cond, _&&_}
+use mathlib.Core.Path.{_≡_, refl, ap, _∙_}
+use mathlib.Core.Bool.{true, false, cond}
 use mathlib.Core.List.{List, [], _∷_, _++_}
 use Prim.Native.Nat.{ℕ, zero, suc, _+_, _-_, _*_, _/_, _<_, _≤_}
 use native.Mathlib.Omega.{arith}
 use native.Mathlib.Decide.{ℕ-discrete}
-use lib.ListN.{length, getD, take, drop, length-drop}
+use lib.ListN.{length, getD, drop, length-drop}
 use lib.Seq.{getD-take, getD-drop, length-take-le}
 use lib.IntN.{ℤ, pos, natAbs}
-use lib.Signed.{ltZ, _≤ℤ_, _<ℤ_}
-use Rattle.signed.specs.Parts.{up, dn}
+use lib.Signed.{ltZ, _≤ℤ_}
 use Rattle.signed.proofs.Laws.{signed, g-lt-false}
 use Rattle.intervals.proofs.Line.{Test, yea, nay, test, no-both}
 use Rattle.intervals.specs.Records.{Rec, rec}
 use Rattle.intervals.proofs.Index.{rows-snoc}
 use Rattle.intervals.specs.Lists.{recs}
 use Rattle.cell_occupancy.specs.Calls.{overlaps, orElse, extentOf}
-use Rattle.cell_occupancy.specs.Inner.{T, A, B, S, mayFollow, Front, Split, Part, Ascends}
+use Rattle.cell_occupancy.specs.Inner.{trackNo, startNo, endNo, stateNo, mayFollow, Front, Part, Ascends}
 use Rattle.cell_occupancy.specs.declared.jumps.Extent.{Extent}
 use Rattle.cell_occupancy.specs.declared.jumps.Extent.the-variants.{Ends, Free}
 
@@ -29,15 +28,15 @@ extent-snoc (rec u x y v ∷ xs) t c d s a b = ap (λ (e : Extent). orElse e (co
     go (nay e) = rw e
 
 -- one record less, from behind
-pub extent-step : (l : List ℤ) (a b : ℤ) (k j : ℕ) → k ≡ suc j → extentOf (recs k l) a b ≡ cond (overlaps a b (A l j) (B l j)) (Ends (B l j)) (extentOf (recs j l) a b)
+pub extent-step : (l : List ℤ) (a b : ℤ) (k j : ℕ) → k ≡ suc j → extentOf (recs k l) a b ≡ cond (overlaps a b (startNo l j) (endNo l j)) (Ends (endNo l j)) (extentOf (recs j l) a b)
 extent-step l a b k j e =
     ap (λ (m : ℕ). extentOf (recs m l) a b) e
-    ∙ ap (λ (r : List (Rec ℤ)). extentOf r a b) (rows-snoc j (T l) (A l) (B l) (λ i. natAbs (S l i)))
-    ∙ extent-snoc (recs j l) (T l j) (A l j) (B l j) (natAbs (S l j)) a b
+    ∙ ap (λ (r : List (Rec ℤ)). extentOf r a b) (rows-snoc j (trackNo l) (startNo l) (endNo l) (λ i. natAbs (stateNo l i)))
+    ∙ extent-snoc (recs j l) (trackNo l j) (startNo l j) (endNo l j) (natAbs (stateNo l j)) a b
 
 -- ---- a scan that is settled by the first record from behind that starts before the end
 
-none-overlap : (l : List ℤ) (a b : ℤ) (m : ℕ) → ((i : ℕ) → i < m → overlaps a b (A l i) (B l i) ≡ false) → extentOf (recs m l) a b ≡ Free
+none-overlap : (l : List ℤ) (a b : ℤ) (m : ℕ) → ((i : ℕ) → i < m → overlaps a b (startNo l i) (endNo l i) ≡ false) → extentOf (recs m l) a b ≡ Free
 none-overlap l a b zero h = refl
 none-overlap l a b (suc m) h = extent-step l a b (suc m) m refl ∙ rw (h m (omega arith)) (none-overlap l a b m (λ i k. h i (omega arith)))
 
@@ -48,21 +47,21 @@ not-overlap a b c d h = go (test (ltZ c b))
     go (yea e) = rw (e, g-lt-false a d (omega signed))
     go (nay e) = rw e
 
-ends-before : {l : List ℤ} {n : ℕ} → Ascends l n → (i j : ℕ) → i < j → j < n → B l i ≤ℤ A l j
+ends-before : {l : List ℤ} {n : ℕ} → Ascends l n → (i j : ℕ) → i < j → j < n → endNo l i ≤ℤ startNo l j
 ends-before v i zero h k = absurd (omega arith)
 ends-before {l} v i (suc j) h k = go (ℕ-discrete i j) (λ m. ends-before v i j m (omega arith))
   where
-    go : Dec (i ≡ j) → (i < j → B l i ≤ℤ A l j) → B l i ≤ℤ A l (suc j)
+    go : Dec (i ≡ j) → (i < j → endNo l i ≤ℤ startNo l j) → endNo l i ≤ℤ startNo l (suc j)
     go (yes e) r = rw e (v .next j k)
     go (no d) r = let x = r (omega arith) in let y = v .order j (omega arith) in let z = v .next j k in omega signed
 
-pub settled : {l : List ℤ} {n : ℕ} → Ascends l n → (a b : ℤ) (k j : ℕ) → k ≡ suc j → j < n → B l j ≤ℤ a → extentOf (recs k l) a b ≡ Free
+pub settled : {l : List ℤ} {n : ℕ} → Ascends l n → (a b : ℤ) (k j : ℕ) → k ≡ suc j → j < n → endNo l j ≤ℤ a → extentOf (recs k l) a b ≡ Free
 settled {l} {n} v a b k j e h t =
     none-overlap l a b k (λ i q. go i q (ℕ-discrete i j))
   where
-    go : (i : ℕ) → i < k → Dec (i ≡ j) → overlaps a b (A l i) (B l i) ≡ false
-    go i q (yes w) = not-overlap a b (A l i) (B l i) (rw w t)
-    go i q (no w) = not-overlap a b (A l i) (B l i) (let x = ends-before v i j (omega arith) h in let y = v .order j h in omega signed)
+    go : (i : ℕ) → i < k → Dec (i ≡ j) → overlaps a b (startNo l i) (endNo l i) ≡ false
+    go i q (yes w) = not-overlap a b (startNo l i) (endNo l i) (rw w t)
+    go i q (no w) = not-overlap a b (startNo l i) (endNo l i) (let x = ends-before v i j (omega arith) h in let y = v .order j h in omega signed)
 
 -- the records of a track do so
 follow-line : (t b s u c v : ℤ) → mayFollow t b s u c v ≡ true → u ≤ℤ t → b ≤ℤ c
@@ -83,8 +82,8 @@ part-ascends {l} {n} {t} {r} f p = record {
       let x = p .ends .below (suc (p .from + i)) (omega (arith, len)) in
       let y = p .begins .above (p .from + i) (omega arith) (omega (arith, len, p .ends .within)) in
       let k = suc (p .from + i) in
-      let q : B l (p .from + i) ≤ℤ A l k =
-      follow-line (T l (p .from + i)) (B l (p .from + i)) (S l (p .from + i)) (T l k) (A l k) (S l k) (f .each k (omega (arith, len, p .ends .within)) .next (p .from + i) refl) (omega signed) in
+      let q : endNo l (p .from + i) ≤ℤ startNo l k =
+      follow-line (trackNo l (p .from + i)) (endNo l (p .from + i)) (stateNo l (p .from + i)) (trackNo l k) (startNo l k) (stateNo l k) (f .each k (omega (arith, len, p .ends .within)) .next (p .from + i) refl) (omega signed) in
       let e : p .from + suc i ≡ k = omega arith in
       rw (at i 2 (omega (arith, len)) (omega arith), at (suc i) 1 (omega (arith, len)) (omega arith), e) q;
 }

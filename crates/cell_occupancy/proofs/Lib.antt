@@ -1,11 +1,14 @@
 pub mod ByIndex
+pub mod Turns
 pub mod Sorted
+pub mod Named
+pub mod Standing
 pub mod Over
 pub mod LastOverlap
 pub mod Crossed
-pub mod Named
-pub mod Laid
 pub mod Cells
+pub mod Collisions
+pub mod Occupied
 pub mod Promises
 pub mod Search
-pub mod Boards
+pub mod Examples

@@ -1,29 +1,31 @@
 -- The list that an axis names, and its records of a track, by the tests of the code.
-use mathlib.Core.Path.{_≡_, refl, sym, ap, _∙_, subst}
+use mathlib.Core.Path.{_≡_, sym, subst}
 use mathlib.Core.List.{List, []}
-use mathlib.Core.Logic.{_≢_, _↔_}
 use Prim.Native.Nat.{ℕ, _%_, _≤_, _<_}
 use native.Mathlib.Omega.{arith}
 use lib.ListN.{length}
 use lib.IntN.{ℤ}
 use borrow.Author.Tests.{eq-eqb, ne-eqb, le-leb, lt-leb}
-use Rattle.intervals.specs.OverInt.{encode, digits}
-use Rattle.intervals.specs.Lists.{recs, onTrack, Holds}
+use Rattle.intervals.specs.OverInt.{encode}
+use Rattle.intervals.specs.Lists.{recs, onTrack, Holds, used, kept}
+use Rattle.intervals.proofs.Line.{Test, yea, nay, test}
+use Rattle.intervals.proofs.Lists.{kept-holds, holds-kept, holds-count}
 use Rattle.cell_occupancy.specs.Calls.{keptOf, partOf, trackOf}
 use Rattle.cell_occupancy.specs.declared.rules.Used.{Used}
 use Rattle.cell_occupancy.specs.declared.rules.Used.the-variants.{Records, Broken}
-use Rattle.cell_occupancy.proofs.ByIndex.{Answer, holds, broken, answer, Both, holds-both, both-holds, both-kept}
 
--- `kept`'s answer in both directions
-pub kept-holds : {l : List ℤ} {n : ℕ} → keptOf l ≡ Records n → Holds l n
-kept-holds {l} {n} e = go (answer l)
+-- the answer of the rules check, and what the list holds
+pub records-holds : {l : List ℤ} {n : ℕ} → keptOf l ≡ Records n → Holds l n
+unfolding keptOf
+records-holds {l} {n} e = go (test (kept l))
   where
-    go : Answer l → Holds l n
-    go (holds m b q) = let i : m ≡ n = cc in subst (λ (k : ℕ). Holds l k) i (both-holds b)
-    go (broken q) = let z : _≡_ {A = ℕ} 0 1 = cc in absurd (omega arith)
+    go : Test (kept l) → Holds l n
+    go (yea q) = let i : Records (used l) ≡ Records n = rw q at e in let j : used l ≡ n = cc in subst (λ (k : ℕ). Holds l k) j (kept-holds l q)
+    go (nay q) = let i : Broken ≡ Records n = rw q at e in let z : _≡_ {A = ℕ} 0 1 = cc in absurd (omega arith)
 
-pub holds-kept : {l : List ℤ} {n : ℕ} → Holds l n → keptOf l ≡ Records n
-holds-kept h = both-kept (holds-both h)
+pub holds-records : {l : List ℤ} {n : ℕ} → Holds l n → keptOf l ≡ Records n
+unfolding keptOf
+holds-records h = rw (holds-kept h, holds-count h)
 
 module _ (l : List ℤ) (t : ℤ) where
   pub no-four : (length l % 4 ≡ 0 → ⊥) → [] ≡ trackOf l t

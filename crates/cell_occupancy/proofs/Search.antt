@@ -1,19 +1,19 @@
 -- A search by jumps passes over no free line.
-use mathlib.Core.Path.{_≡_, refl, sym, ap, _∙_, subst}
+use mathlib.Core.Path.{_≡_, subst}
 use mathlib.Core.Bool.{true}
 use mathlib.Core.List.{List}
-use Prim.Native.Nat.{ℕ, _+_, _<_, _≤_}
+use Prim.Native.Nat.{_+_, _<_, _≤_}
 use native.Mathlib.Decide.{decLt}
 use lib.IntN.{ℤ, pos, _+ℤ_, _-ℤ_}
 use lib.Signed.{_≤ℤ_, _<ℤ_}
-use Rattle.signed.specs.Parts.{up, dn, gap}
+use Rattle.signed.specs.Parts.{up, dn}
 use Rattle.signed.proofs.Laws.{signed, sum, dif}
 use Rattle.intervals.specs.Records.{Rec}
 use Rattle.intervals.specs.Lists.{rules}
 use Rattle.cell_occupancy.specs.Calls.{collisionJump}
 use Rattle.cell_occupancy.specs.Inner.{Searched}
 use Rattle.cell_occupancy.specs.declared.jumps.Jump.the-variants as J
-use Rattle.cell_occupancy.proofs.Cells.{Taken, Collides}
+use Rattle.cell_occupancy.specs.Meaning.{Taken, Collides}
 use Rattle.cell_occupancy.proofs.Promises.{none-if-free, jump-collides}
 
 pub record Turn (rs : List (Rec ℤ)) (t₁ t₂ start span line e : ℤ) : Type 0 where

@@ -1,25 +1,23 @@
 -- A list that keeps the rules is sorted by track, so the records of one track are a part of it.
-use mathlib.Core.Path.{_≡_, refl, sym, ap, _∙_, subst}
-use mathlib.Core.Bool.{Bool, true, false, not, cond, _&&_, _||_}
+use mathlib.Core.Path.{_≡_, refl, sym, ap, _∙_}
+use mathlib.Core.Bool.{true, false}
 use mathlib.Core.List.{List, [], _∷_, _++_, append-nil}
 use Prim.Native.Nat.{ℕ, zero, suc, _+_, _-_, _*_, _<_, _≤_}
 use native.Mathlib.Omega.{arith}
-use native.Mathlib.Decide.{decLt, ℕ-discrete}
-use lib.ListN.{length, getD, take, drop, length-drop}
-use lib.Seq.{getD-drop, drop-cons}
+use native.Mathlib.Decide.{ℕ-discrete}
+use lib.ListN.{length, getD, take, drop}
+use lib.Seq.{drop-cons}
 use lib.IntN.{ℤ, pos, negsuc, natAbs, _+ℤ_}
-use lib.Signed.{ltZ, leZ, nonNeg, _≤ℤ_, _<ℤ_}
-use Rattle.signed.specs.Parts.{up, dn}
-use Rattle.signed.proofs.Laws.{signed, sum, g-lt-true, g-lt-false}
+use lib.Signed.{ltZ, nonNeg, _≤ℤ_, _<ℤ_}
+use Rattle.signed.proofs.Laws.{signed, g-lt-true, g-lt-false}
 use Rattle.intervals.proofs.Line.{Test, yea, nay, test, no-both}
 use Rattle.intervals.specs.Records.{Rec, rec, same}
-use Rattle.intervals.proofs.Grid.{and-l, and-r}
-use Rattle.intervals.specs.OverInt.{encode, digits}
+use Rattle.intervals.specs.OverInt.{encode}
 use Rattle.intervals.specs.Flat.{rows}
 use Rattle.intervals.proofs.Index.{rows-ext}
 use Rattle.intervals.specs.Lists.{recs, onTrack, Holds}
-use Rattle.cell_occupancy.specs.Inner.{T, A, B, S, mayFollow, followAt, Goes, Front, Split}
-use Rattle.cell_occupancy.proofs.ByIndex.{Both, holds-both, nn-good}
+use Rattle.cell_occupancy.specs.Inner.{trackNo, startNo, endNo, stateNo, mayFollow, Front, Split}
+use Rattle.cell_occupancy.proofs.ByIndex.{holds-both, nn-good}
 
 -- ---- sorted
 
@@ -30,16 +28,16 @@ follow-track t b s u c v h = go (test (ltZ u t))
     go (nay e) = omega signed
     go (yea e) = no-both h (rw (g-lt-false t u (omega signed), e))
 
-pub sorted : {l : List ℤ} {n : ℕ} → Front l n → (i j : ℕ) → i ≤ j → j < n → T l i ≤ℤ T l j
+pub sorted : {l : List ℤ} {n : ℕ} → Front l n → (i j : ℕ) → i ≤ j → j < n → trackNo l i ≤ℤ trackNo l j
 sorted f zero zero h k = omega signed
 sorted f (suc i) zero h k = absurd (omega arith)
 sorted {l} f i (suc j) h k = go (ℕ-discrete i (suc j)) (λ m. sorted f i j m (omega arith))
   where
-    go : Dec (i ≡ suc j) → (i ≤ j → T l i ≤ℤ T l j) → T l i ≤ℤ T l (suc j)
+    go : Dec (i ≡ suc j) → (i ≤ j → trackNo l i ≤ℤ trackNo l j) → trackNo l i ≤ℤ trackNo l (suc j)
     go (yes e) r = rw e (omega signed)
     go (no d) r =
         let x = r (omega arith) in
-        let y = follow-track (T l j) (getD l (4 * j + 2) (pos 0)) (getD l (4 * j + 3) (pos 0)) (T l (suc j)) (getD l (4 * suc j + 1) (pos 0)) (getD l (4 * suc j + 3) (pos 0)) (f .each (suc j) k .next j refl) in
+        let y = follow-track (trackNo l j) (getD l (4 * j + 2) (pos 0)) (getD l (4 * j + 3) (pos 0)) (trackNo l (suc j)) (getD l (4 * suc j + 1) (pos 0)) (getD l (4 * suc j + 3) (pos 0)) (f .each (suc j) k .next j refl) in
         omega signed
 
 -- ---- a halving search
@@ -47,11 +45,11 @@ sorted {l} f i (suc j) h k = go (ℕ-discrete i (suc j)) (λ m. sorted f i j m (
 pub record Halving (l : List ℤ) (n : ℕ) (x : ℤ) (lo hi : ℕ) : Type 0 where
   pub order : lo ≤ hi
   pub left : hi ≤ n
-  pub below : (k : ℕ) → k < lo → T l k <ℤ x
-  pub above : (k : ℕ) → hi ≤ k → k < n → x ≤ℤ T l k
+  pub below : (k : ℕ) → k < lo → trackNo l k <ℤ x
+  pub above : (k : ℕ) → hi ≤ k → k < n → x ≤ℤ trackNo l k
 
 module _ {l : List ℤ} {n : ℕ} {x : ℤ} {lo hi : ℕ} (f : Front l n) (v : Halving l n x lo hi) where
-  pub go-up : (m : ℕ) → m < hi → T l m <ℤ x → Halving l n x (m + 1) hi
+  pub go-up : (m : ℕ) → m < hi → trackNo l m <ℤ x → Halving l n x (m + 1) hi
   go-up m h t = record {
     order = omega arith;
     left = v .left;
@@ -59,7 +57,7 @@ module _ {l : List ℤ} {n : ℕ} {x : ℤ} {lo hi : ℕ} (f : Front l n) (v : H
     above = v .above;
   }
 
-  pub go-down : (m : ℕ) → lo ≤ m → m < hi → x ≤ℤ T l m → Halving l n x lo m
+  pub go-down : (m : ℕ) → lo ≤ m → m < hi → x ≤ℤ trackNo l m → Halving l n x lo m
   go-down m h h₂ t = record {
     order = omega arith;
     left = omega (arith, v .left);
@@ -151,22 +149,22 @@ pub is-same : (x y : ℤ) → x ≤ℤ y → y ≤ℤ x → same ltZ x y ≡ tru
 is-same x y h k = rw (g-lt-false x y (omega signed), g-lt-false y x (omega signed))
 
 pub cut-rows : (l : List ℤ) (n : ℕ) (t t₂ : ℤ) (p q : ℕ) → t₂ ≡ t +ℤ pos 1 → Split l n t p → Split l n t₂ q → p ≤ q
-    → onTrack t (recs n l) ≡ rows (q - p) (λ i. T l (p + i)) (λ i. A l (p + i)) (λ i. B l (p + i)) (λ i. natAbs (S l (p + i)))
+    → onTrack t (recs n l) ≡ rows (q - p) (λ i. trackNo l (p + i)) (λ i. startNo l (p + i)) (λ i. endNo l (p + i)) (λ i. natAbs (stateNo l (p + i)))
 cut-rows l n t t₂ p q e u v o =
     let m : ℕ = q - p in
     let r : ℕ = n - q in
     let e₁ : n ≡ p + (m + r) = omega (arith, v .within) in
-    let X = rows p (T l) (A l) (B l) (λ i. natAbs (S l i)) in
-    let Y = rows m (λ i. T l (p + i)) (λ i. A l (p + i)) (λ i. B l (p + i)) (λ i. natAbs (S l (p + i))) in
-    let W = rows r (λ i. T l (p + (m + i))) (λ i. A l (p + (m + i))) (λ i. B l (p + (m + i))) (λ i. natAbs (S l (p + (m + i)))) in
+    let X = rows p (trackNo l) (startNo l) (endNo l) (λ i. natAbs (stateNo l i)) in
+    let Y = rows m (λ i. trackNo l (p + i)) (λ i. startNo l (p + i)) (λ i. endNo l (p + i)) (λ i. natAbs (stateNo l (p + i))) in
+    let W = rows r (λ i. trackNo l (p + (m + i))) (λ i. startNo l (p + (m + i))) (λ i. endNo l (p + (m + i))) (λ i. natAbs (stateNo l (p + (m + i)))) in
     let sp : recs n l ≡ X ++ (Y ++ W) =
-    ap (λ (k : ℕ). recs k l) e₁ ∙ rows-split p (m + r) (T l) (A l) (B l) (λ i. natAbs (S l i))
-    ∙ ap (λ (z : List (Rec ℤ)). X ++ z) (rows-split m r (λ i. T l (p + i)) (λ i. A l (p + i)) (λ i. B l (p + i)) (λ i. natAbs (S l (p + i)))) in
-    let x : onTrack t X ≡ [] = none-on t p (T l) (A l) (B l) (λ i. natAbs (S l i)) (λ i h. not-same t (T l i) (u .below i h)) in
-    let y : onTrack t Y ≡ Y = all-on t m (λ i. T l (p + i)) (λ i. A l (p + i)) (λ i. B l (p + i)) (λ i. natAbs (S l (p + i)))
-    (λ i h. is-same t (T l (p + i)) (u .above (p + i) (omega arith) (omega (arith, v .within))) (let b = v .below (p + i) (omega arith) in omega signed)) in
-    let w : onTrack t W ≡ [] = none-on t r (λ i. T l (p + (m + i))) (λ i. A l (p + (m + i))) (λ i. B l (p + (m + i))) (λ i. natAbs (S l (p + (m + i))))
-    (λ i h. not-same₂ t (T l (p + (m + i))) (let b = v .above (p + (m + i)) (omega arith) (omega (arith, v .within)) in omega signed)) in
+    ap (λ (k : ℕ). recs k l) e₁ ∙ rows-split p (m + r) (trackNo l) (startNo l) (endNo l) (λ i. natAbs (stateNo l i))
+    ∙ ap (λ (z : List (Rec ℤ)). X ++ z) (rows-split m r (λ i. trackNo l (p + i)) (λ i. startNo l (p + i)) (λ i. endNo l (p + i)) (λ i. natAbs (stateNo l (p + i)))) in
+    let x : onTrack t X ≡ [] = none-on t p (trackNo l) (startNo l) (endNo l) (λ i. natAbs (stateNo l i)) (λ i h. not-same t (trackNo l i) (u .below i h)) in
+    let y : onTrack t Y ≡ Y = all-on t m (λ i. trackNo l (p + i)) (λ i. startNo l (p + i)) (λ i. endNo l (p + i)) (λ i. natAbs (stateNo l (p + i)))
+    (λ i h. is-same t (trackNo l (p + i)) (u .above (p + i) (omega arith) (omega (arith, v .within))) (let b = v .below (p + i) (omega arith) in omega signed)) in
+    let w : onTrack t W ≡ [] = none-on t r (λ i. trackNo l (p + (m + i))) (λ i. startNo l (p + (m + i))) (λ i. endNo l (p + (m + i))) (λ i. natAbs (stateNo l (p + (m + i))))
+    (λ i h. not-same₂ t (trackNo l (p + (m + i))) (let b = v .above (p + (m + i)) (omega arith) (omega (arith, v .within)) in omega signed)) in
     ap (onTrack t) sp ∙ onTrack-append t X (Y ++ W) ∙ (λ i. x i ++ (onTrack-append t Y W ∙ (λ j. y j ++ w j)) i) ∙ append-nil Y
 
 pub cut-is : (l : List ℤ) (n : ℕ) (t t₂ : ℤ) (p q : ℕ) → Holds l n → t₂ ≡ t +ℤ pos 1 → Split l n t p → Split l n t₂ q → p ≤ q
@@ -177,9 +175,9 @@ cut-is l n t t₂ p q h e u v o =
     let g : (j : ℕ) → (i : ℕ) → 4 * (p + i) + j ≡ 4 * p + (4 * i + j) = λ j i. omega arith in
     let g₀ : (i : ℕ) → 4 * (p + i) ≡ 4 * p + 4 * i = λ i. omega arith in
     let c : 4 * q - 4 * p ≡ 4 * m = omega arith in
-    let x = rows-ext m (λ i. T l (p + i)) (λ i. A l (p + i)) (λ i. B l (p + i)) (λ i. getD l (4 * p + 4 * i) (pos 0)) (λ i. getD l (4 * p + (4 * i + 1)) (pos 0)) (λ i. getD l (4 * p + (4 * i + 2)) (pos 0))
-    (λ i. natAbs (S l (p + i))) (λ i. natAbs (getD l (4 * p + (4 * i + 3)) (pos 0)))
+    let x = rows-ext m (λ i. trackNo l (p + i)) (λ i. startNo l (p + i)) (λ i. endNo l (p + i)) (λ i. getD l (4 * p + 4 * i) (pos 0)) (λ i. getD l (4 * p + (4 * i + 1)) (pos 0)) (λ i. getD l (4 * p + (4 * i + 2)) (pos 0))
+    (λ i. natAbs (stateNo l (p + i))) (λ i. natAbs (getD l (4 * p + (4 * i + 3)) (pos 0)))
     (λ i k. ap (λ (z : ℕ). getD l z (pos 0)) (g₀ i)) (λ i k. ap (λ (z : ℕ). getD l z (pos 0)) (g 1 i)) (λ i k. ap (λ (z : ℕ). getD l z (pos 0)) (g 2 i)) (λ i k. ap (λ (z : ℕ). natAbs (getD l z (pos 0))) (g 3 i)) in
     let y = enc-rows m (4 * p) l (omega (arith, b .front .room, v .within))
-    (λ i k. ap (λ (z : ℕ). nonNeg (getD l z (pos 0))) (sym (g 3 i)) ∙ nn-good (S l (p + i)) (b .front .each (p + i) (omega (arith, v .within)) .good .s-lo)) in
+    (λ i k. ap (λ (z : ℕ). nonNeg (getD l z (pos 0))) (sym (g 3 i)) ∙ nn-good (stateNo l (p + i)) (b .front .each (p + i) (omega (arith, v .within)) .good .s-lo)) in
     ap (λ (z : ℕ). take z (drop (4 * p) l)) c ∙ sym y ∙ ap (encode) (sym x ∙ sym (cut-rows l n t t₂ p q e u v o))

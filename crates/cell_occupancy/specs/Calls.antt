@@ -1,13 +1,14 @@
 -- The list calls of document 01 that read a list: the rules check, collision jump, occupied-track jump, records of a track.
 use mathlib.Core.Path.{_≡_}
-use mathlib.Core.Bool.{Bool, true, false, cond, _&&_}
+use mathlib.Core.Bool.{Bool, cond, _&&_}
 use mathlib.Core.List.{List, [], _∷_}
-use Prim.Native.Nat.{ℕ, zero, suc}
+use Prim.Native.Nat.{ℕ, suc, _+_, _*_, _≤_}
 use lib.Dec.{eqb}
+use lib.ListN.{length, take, drop}
 use lib.IntN.{ℤ, pos, _+ℤ_}
 use lib.Signed.{ltZ}
 use Rattle.intervals.specs.Records.{Rec, rec}
-use Rattle.intervals.specs.OverInt.{encode, span}
+use Rattle.intervals.specs.OverInt.{encode, decode, span}
 use Rattle.intervals.specs.Lists.{recs, used, kept, goodLength, onTrack}
 use Rattle.cell_occupancy.specs.declared.rules.Used.{Used}
 use Rattle.cell_occupancy.specs.declared.rules.Used.the-variants.{Records, Broken}
@@ -80,3 +81,26 @@ trackOf l t = cond (goodLength l) (partOf l t (keptOf l)) []
 -- "Empty if .. the axis is not 0 or 1"
 abbrev pub recordsOfTrack : List ℤ → List ℤ → ℕ → ℤ → List ℤ
 recordsOfTrack rows cols axis t = cond (eqb axis 0) (trackOf cols t) (cond (eqb axis 1) (trackOf rows t) [])
+
+-- ---- where the part stands in the named list, for a caller that cannot be given a part
+
+-- how many records are on tracks before t
+abbrev pub before : ℤ → List (Rec ℤ) → ℕ
+before t [] = 0
+before t (rec u a b s ∷ rs) = cond (ltZ u t) (suc (before t rs)) (before t rs)
+
+-- the place of its first number: behind the records of the tracks before t, or 0 where it is empty
+abbrev pub startOf : ℤ → List (Rec ℤ) → List ℤ → ℕ
+startOf t rs [] = 0
+startOf t rs (z ∷ part) = 4 * before t rs
+
+-- a part that holds the records of track t is the `count` numbers of l from the place `start` on
+pub record Stands (l : List ℤ) (t : ℤ) (part : List ℤ) (start count : ℕ) : Type 0 where
+  pub first : start ≡ startOf t (decode l) part
+  pub long : count ≡ length part
+  pub inside : start + count ≤ length l
+  pub is : take count (drop start l) ≡ part
+
+-- the list that an axis names
+abbrev pub named : List ℤ → List ℤ → ℕ → List ℤ
+named rows cols axis = cond (eqb axis 0) cols rows

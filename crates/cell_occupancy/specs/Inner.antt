@@ -2,29 +2,26 @@
 use mathlib.Core.Path.{_≡_}
 use mathlib.Core.Bool.{Bool, true, false, not, _&&_, _||_}
 use mathlib.Core.List.{List}
-use Prim.Native.Nat.{ℕ, zero, suc, _+_, _-_, _*_, _<_, _≤_, min}
+use Prim.Native.Nat.{ℕ, suc, _+_, _-_, _*_, _<_, _≤_}
 use lib.ListN.{length, getD, take, drop}
 use lib.IntN.{ℤ, pos, negsuc, _+ℤ_}
 use lib.Signed.{ltZ, _≤ℤ_, _<ℤ_}
-use mir.Syntax.{w16}
-use mir.Val.{SFits}
-use Rattle.signed.specs.Parts.{up, dn}
 use Rattle.intervals.specs.Records.{Rec, same}
 use Rattle.cell_occupancy.specs.Calls.{collisionJump}
 use Rattle.cell_occupancy.specs.declared.jumps.Jump.the-variants as J
 
 -- the numbers of record i
-abbrev pub T : List ℤ → ℕ → ℤ
-T l i = getD l (4 * i) (pos 0)
+abbrev pub trackNo : List ℤ → ℕ → ℤ
+trackNo l i = getD l (4 * i) (pos 0)
 
-abbrev pub A : List ℤ → ℕ → ℤ
-A l i = getD l (4 * i + 1) (pos 0)
+abbrev pub startNo : List ℤ → ℕ → ℤ
+startNo l i = getD l (4 * i + 1) (pos 0)
 
-abbrev pub B : List ℤ → ℕ → ℤ
-B l i = getD l (4 * i + 2) (pos 0)
+abbrev pub endNo : List ℤ → ℕ → ℤ
+endNo l i = getD l (4 * i + 2) (pos 0)
 
-abbrev pub S : List ℤ → ℕ → ℤ
-S l i = getD l (4 * i + 3) (pos 0)
+abbrev pub stateNo : List ℤ → ℕ → ℤ
+stateNo l i = getD l (4 * i + 3) (pos 0)
 
 -- P, or not P, by a flag
 abbrev pub Says : Bool → Type 0 → Type 0
@@ -41,7 +38,7 @@ pub record Good (t a b s : ℤ) : Type 0 where
   pub s-lo : pos 1 ≤ℤ s
   pub s-hi : s ≤ℤ pos 2
 
--- a record on track u from c with state v may stand behind one on track t to b with state s
+-- a record on track u from c with state v may stand behind one on track t to b with state s: the states as they stand in the list
 abbrev pub mayFollow : ℤ → ℤ → ℤ → ℤ → ℤ → ℤ → Bool
 mayFollow t b s u c v = ltZ t u || (same ltZ t u && (ltZ b c || (same ltZ b c && not (same ltZ s v))))
 
@@ -68,13 +65,8 @@ Zeros l k = (j : ℕ) → k ≤ j → j < length l → getD l j (pos 0) ≡ pos 
 -- r is where the records of tracks from x on begin
 pub record Split (l : List ℤ) (n : ℕ) (x : ℤ) (r : ℕ) : Type 0 where
   pub within : r ≤ n
-  pub below : (k : ℕ) → k < r → T l k <ℤ x
-  pub above : (k : ℕ) → r ≤ k → k < n → x ≤ℤ T l k
-
--- r is z, or the nearest line of the limited grid: r + 10000 is z + 10000, not below 0 and not above 20000
-pub record Clip (z r : ℤ) : Type 0 where
-  pub fits : SFits w16 r
-  pub is : up r + 10000 ≡ dn r + min (up z + 10000 - dn z) 20000
+  pub below : (k : ℕ) → k < r → trackNo l k <ℤ x
+  pub above : (k : ℕ) → r ≤ k → k < n → x ≤ℤ trackNo l k
 
 -- r is the part of l that holds the records of track t among the first n, as a part of the list
 pub record Part (l : List ℤ) (n : ℕ) (t : ℤ) (r : List ℤ) : Type 0 where
@@ -85,10 +77,17 @@ pub record Part (l : List ℤ) (n : ℕ) (t : ℤ) (r : List ℤ) : Type 0 where
   pub ends : Split l n (t +ℤ pos 1) to
   pub cut : r ≡ take (4 * to - 4 * from) (drop (4 * from) l)
 
+-- r is the part of l that holds the records of the last track among those from `from` up to `to`
+pub record Tail (l : List ℤ) (from to : ℕ) (r : List ℤ) : Type 0 where
+  pub at : ℕ
+  pub low : from ≤ at
+  pub begins : Split l to (trackNo l (to - 1)) at
+  pub cut : r ≡ take (4 * to - 4 * at) (drop (4 * at) l)
+
 -- records one behind the other on one track: each ends at or before the start of the next
 pub record Ascends (l : List ℤ) (n : ℕ) : Type 0 where
-  pub order : (i : ℕ) → i < n → A l i <ℤ B l i
-  pub next : (i : ℕ) → suc i < n → B l i ≤ℤ A l (suc i)
+  pub order : (i : ℕ) → i < n → startNo l i <ℤ endNo l i
+  pub next : (i : ℕ) → suc i < n → endNo l i ≤ℤ startNo l (suc i)
 
 -- a search upward: no line from start on before `line` has its area free
 pub record Searched (rs : List (Rec ℤ)) (t₁ t₂ start span line : ℤ) : Type 0 where

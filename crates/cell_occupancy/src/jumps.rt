@@ -1,17 +1,16 @@
 // Jumps over what is taken: past the records that an area meets, and past the last track with a record.
 ghost use mathlib.Core.Path.{_≡_};
-ghost use mathlib.Core.Bool.{true, false};
-ghost use Prim.Native.Nat.{ℕ, _/_};
+ghost use Prim.Native.Nat.{_/_};
 ghost use lib.ListN.{length};
 ghost use lib.IntN.{ℤ, pos, _+ℤ_};
 ghost use lib.Signed.{_≤ℤ_, _<ℤ_};
 ghost use Rattle.intervals.specs.Lists.{Holds, recs};
 ghost use Rattle.cell_occupancy.specs.declared.jumps.Jump.the-variants as J;
 ghost use Rattle.cell_occupancy.specs.Calls.{extentOf, larger, collisionJump, occupiedJump};
-ghost use Rattle.cell_occupancy.specs.Inner.{Ascends, Clip, Searched};
+ghost use Rattle.cell_occupancy.specs.Inner.{Ascends, Searched};
 use crate::rules::number;
+use crate::tracks::last_track;
 use crate::tracks::lower;
-use crate::tracks::track_part;
 
 // What a track has against some lines: the line where the last record that overlaps them ends.
 pub enum Extent {
@@ -64,20 +63,8 @@ fn larger(extent: Extent, jump: Jump) -> Jump
     }
 }
 
-// Into the limited grid.
-fn clip(line: i16) -> i16
-    ensures { λ r. ⌜ Clip line r ⌝ }
-{
-    if line < -10000 {
-        return -10000;
-    }
-    if 10000 < line {
-        return 10000;
-    }
-    line
-}
-
-// The largest, over the crossed tracks, of the end of the last overlapping record.
+// The largest, over the crossed tracks, of the end of the last overlapping record. The records of the crossed tracks stand
+// together in the list; they are taken track by track from behind, so that a track with no record costs nothing.
 pub fn collision_jump(
     list: &[i16],
     used: usize,
@@ -90,14 +77,14 @@ pub fn collision_jump(
     requires { ⌜ «track_start» <ℤ «track_end» ⌝ }
     ensures { λ r. ⌜ r ≡ collisionJump (recs used (now (list .entry))) «track_start» «track_end» start end ⌝ }
 {
-    let first = clip(track_start);
-    let mut track = clip(track_end);
+    let first = lower(list, 0, used, track_start as i32);
+    let mut k = lower(list, first, used, track_end as i32);
     let mut best = Jump::Free;
-    while first < track {
-        track -= 1;
-        let part = track_part(list, used, track);
+    while first < k {
+        let part = last_track(list, first, k);
         let extent = collision_extent(part, start, end);
         best = larger(extent, best);
+        k -= part.len() / 4;
     }
     best
 }
@@ -129,7 +116,7 @@ pub fn first_free(
 ) -> i16
     requires { ⌜ Holds (now list) used ⌝ }
     requires { ⌜ «track_start» <ℤ «track_end» ⌝ }
-    requires { ⌜ (pos 1 ≤ℤ span) × ((span ≤ℤ pos 10000) × (start ≤ℤ pos 20000)) ⌝ }
+    requires { ⌜ (pos 1 ≤ℤ span) × ((span ≤ℤ pos 10000) × (start ≤ℤ pos 22000)) ⌝ }
     ensures { λ r. ⌜ collisionJump (recs used (now (list .entry))) «track_start» «track_end» r (r +ℤ span) ≡ J.Free ⌝ }
     ensures { λ r. ⌜ Searched (recs used (now (list .entry))) «track_start» «track_end» start span r ⌝ }
 {

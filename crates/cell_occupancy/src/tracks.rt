@@ -1,22 +1,34 @@
 // The records of a track, as a part of the list.
 ghost use mathlib.Core.Path.{_≡_};
-ghost use Prim.Native.Nat.{ℕ, _+_, _*_, _≤_, _<_};
-ghost use lib.ListN.{length};
+ghost use Prim.Native.Nat.{ℕ, _+_, _-_, _*_, _≤_, _<_};
 ghost use lib.IntN.{ℤ};
 ghost use lib.Signed.{_<ℤ_};
 ghost use Rattle.intervals.specs.OverInt.{encode};
 ghost use Rattle.intervals.specs.Lists.{Holds, recs, onTrack};
-ghost use Rattle.cell_occupancy.specs.Calls.{trackOf, recordsOfTrack};
-ghost use Rattle.cell_occupancy.specs.Inner.{T, Front, Split, Part};
+ghost use Rattle.cell_occupancy.specs.Calls.{trackOf, recordsOfTrack, Stands, named};
+ghost use Rattle.cell_occupancy.specs.Inner.{trackNo, Front, Split, Part, Tail};
 use crate::rules::Used;
 use crate::rules::kept;
 use crate::rules::number;
+
+// Where a part of a list stands: the place of its first number, and how many numbers it has. An empty part stands at 0.
+pub struct Place {
+    pub start: usize,
+    pub length: usize,
+}
+
+impl Place {
+    const NOWHERE: Place = Place {
+        start: 0,
+        length: 0,
+    };
+}
 
 // The first record from `from` on whose track is not below x, by halving. x is wide enough for the track behind any track.
 pub fn lower(list: &[i16], from: usize, used: usize, x: i32) -> usize
     requires { ⌜ Front (now list) used ⌝ }
     requires { ⌜ from ≤ used ⌝ }
-    requires { ⌜ ((k : ℕ) → k < from → T (now list) k <ℤ x) ⌝ }
+    requires { ⌜ ((k : ℕ) → k < from → trackNo (now list) k <ℤ x) ⌝ }
     ensures { λ r. ⌜ (from ≤ r) × Split (now (list .entry)) used x r ⌝ }
 {
     let mut lo = from;
@@ -33,32 +45,72 @@ pub fn lower(list: &[i16], from: usize, used: usize, x: i32) -> usize
     lo
 }
 
+// The records of the last track among those from `from` up to `to`.
+pub fn last_track<'a>(list: &'a [i16], from: usize, to: usize) -> &'a [i16]
+    requires { ⌜ Front (now list) to ⌝ }
+    requires { ⌜ from < to ⌝ }
+    requires { ⌜ ((k : ℕ) → k < from → trackNo (now list) k <ℤ trackNo (now list) (to - 1)) ⌝ }
+    ensures { λ r. ⌜ Tail (now (list .entry)) from to (now r) ⌝ }
+{
+    let track = number(list, 4 * (to - 1));
+    let a = lower(list, from, to, track as i32);
+    &list[4 * a..4 * to]
+}
+
+// Where the records of one track stand.
+fn place_in(list: &[i16], used: usize, track: i16) -> Place
+    requires { ⌜ Holds (now list) used ⌝ }
+    ensures { λ r. ⌜ Stands (now (list .entry)) track (encode (onTrack track (recs used (now (list .entry))))) (r .start) (r .length) ⌝ }
+    ensures { λ r. ⌜ Part (now (list .entry)) used track (encode (onTrack track (recs used (now (list .entry))))) ⌝ }
+{
+    let x = track as i32;
+    let a = lower(list, 0, used, x);
+    let b = lower(list, a, used, x + 1);
+    if a == b {
+        return Place::NOWHERE;
+    }
+    Place {
+        start: 4 * a,
+        length: 4 * b - 4 * a,
+    }
+}
+
 // The records of one track.
 pub fn track_part<'a>(list: &'a [i16], used: usize, track: i16) -> &'a [i16]
     requires { ⌜ Holds (now list) used ⌝ }
     ensures { λ r. ⌜ now r ≡ encode (onTrack track (recs used (now (list .entry)))) ⌝ }
     ensures { λ r. ⌜ Part (now (list .entry)) used track (now r) ⌝ }
 {
-    let x = track as i32;
-    let a = lower(list, 0, used, x);
-    let b = lower(list, a, used, x + 1);
-    &list[4 * a..4 * b]
+    let place = place_in(list, used, track);
+    let start = place.start;
+    let end = start + place.length;
+    &list[start..end]
 }
 
-// The same of any list: nothing where its length or its records break the rules.
+// Where they stand in any list: nowhere if its length or its records break the rules.
+fn place_or_none(list: &[i16], track: i16) -> Place
+    ensures { λ r. ⌜ Stands (now (list .entry)) track (trackOf (now (list .entry)) track) (r .start) (r .length) ⌝ }
+{
+    if list.len() % 4 != 0 {
+        return Place::NOWHERE;
+    }
+    if 1048576 < list.len() {
+        return Place::NOWHERE;
+    }
+    let Used::Records(used) = kept(list) else {
+        return Place::NOWHERE;
+    };
+    place_in(list, used, track)
+}
+
+// The records of a track of any list.
 fn track_or_none<'a>(list: &'a [i16], track: i16) -> &'a [i16]
     ensures { λ r. ⌜ now r ≡ trackOf (now (list .entry)) track ⌝ }
 {
-    if list.len() % 4 != 0 {
-        return &list[0..0];
-    }
-    if 1048576 < list.len() {
-        return &list[0..0];
-    }
-    let Used::Records(n) = kept(list) else {
-        return &list[0..0];
-    };
-    track_part(list, n, track)
+    let place = place_or_none(list, track);
+    let start = place.start;
+    let end = start + place.length;
+    &list[start..end]
 }
 
 // The records of a track in the list that the axis names: the columns (0) or the rows (1). The other list is not looked at.
@@ -72,4 +124,17 @@ pub fn records_of_track<'a>(rows: &'a [i16], cols: &'a [i16], axis: u8, track: i
         return track_or_none(rows, track);
     }
     &rows[0..0]
+}
+
+// Where those records stand in the list that the axis names.
+pub fn track_place(rows: &[i16], cols: &[i16], axis: u8, track: i16) -> Place
+    ensures { λ r. ⌜ Stands (named (now (rows .entry)) (now (cols .entry)) axis) track (recordsOfTrack (now (rows .entry)) (now (cols .entry)) axis track) (r .start) (r .length) ⌝ }
+{
+    if axis == 0 {
+        return place_or_none(cols, track);
+    }
+    if axis == 1 {
+        return place_or_none(rows, track);
+    }
+    Place::NOWHERE
 }

@@ -1,4 +1,4 @@
--- The tracks of an area, as a list.
+-- The tracks of an area as a list: none stands twice, and how the list begins.
 use mathlib.Core.Path.{_≡_, refl}
 use mathlib.Core.Bool.{true, false}
 use mathlib.Core.List.{List, [], _∷_}

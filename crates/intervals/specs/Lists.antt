@@ -6,10 +6,10 @@ use Prim.Native.Nat.{ℕ, _%_}
 use lib.Dec.{eqb, leb}
 use lib.ListN.{length}
 use lib.IntN.{ℤ, pos, negsuc}
-use lib.Signed.{ltZ, leZ}
+use lib.Signed.{ltZ, leZ, _≤ℤ_, _<ℤ_}
 use Rattle.intervals.specs.Records.{Rec, rec, Area, area, same}
 use Rattle.intervals.specs.Flat.{flatRows}
-use Rattle.intervals.specs.OverInt.{keeps, fit, decode, flat, isFlat, digits}
+use Rattle.intervals.specs.OverInt.{cellOf, keeps, fit, decode, flat, isFlat, digits}
 
 -- "The limited grid is -10000..10000": its first and last line, and its last track
 abbrev pub low : ℤ
@@ -71,3 +71,7 @@ goodLength l = eqb (length l % 4) 0 && leb (length l) 1048576
 abbrev pub onTrack : ℤ → List (Rec ℤ) → List (Rec ℤ)
 onTrack t [] = []
 onTrack t (rec u a b s ∷ rs) = cond (same ltZ t u) (rec u a b s ∷ onTrack t rs) (onTrack t rs)
+
+-- "Free means that no cell of the area has a state": of the tracks t₁..t₂ and the lines a..b
+abbrev pub Free : List (Rec ℤ) → ℤ → ℤ → ℤ → ℤ → Type 0
+Free rs t₁ t₂ a b = (t p : ℤ) → t₁ ≤ℤ t → t <ℤ t₂ → a ≤ℤ p → p <ℤ b → cellOf rs t p ≡ 0

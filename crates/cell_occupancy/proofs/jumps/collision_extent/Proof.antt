@@ -13,8 +13,7 @@ use mir.Facts.{toZ-ofZ}
 use Rattle.signed.proofs.Laws.{signed, g-lt-true, g-lt-false}
 use Rattle.intervals.specs.Lists.{recs}
 use Rattle.cell_occupancy.specs.Calls.{extentOf}
-use Rattle.cell_occupancy.specs.Inner.{A, B}
-use Rattle.cell_occupancy.specs.declared.jumps.Extent.{Extent}
+use Rattle.cell_occupancy.specs.Inner.{startNo, endNo}
 use Rattle.cell_occupancy.specs.declared.jumps.Extent.the-variants.{Ends}
 use Rattle.cell_occupancy.proofs.LastOverlap.{extent-step, settled}
 use Rattle.cell_occupancy.proofs.jumps.collision_extent.Statement.{statement}
@@ -64,14 +63,14 @@ module _ (c : tie.After-number Inv-loop μ-loop) where
   left-over : extentOf (recs (length l / 4) l) (z .args .start) (z .args .end) ≡ extentOf (recs (c .before .before .loop .k) l) (z .args .start) (z .args .end)
   left-over = rw (toZ-ofZ (z .fits .start), toZ-ofZ (z .fits .end)) at (c .before .before .loop .inv .1)
 
-  stepped : extentOf (recs (length l / 4) l) (z .args .start) (z .args .end) ≡ cond (ltZ (A l j) (z .args .end) && ltZ (z .args .start) (B l j)) (Ends (B l j)) (extentOf (recs j l) (z .args .start) (z .args .end))
+  stepped : extentOf (recs (length l / 4) l) (z .args .start) (z .args .end) ≡ cond (ltZ (startNo l j) (z .args .end) && ltZ (z .args .start) (endNo l j)) (Ends (endNo l j)) (extentOf (recs j l) (z .args .start) (z .args .end))
   stepped = left-over ∙ extent-step l (z .args .start) (z .args .end) (c .before .before .loop .k) j (omega (arith, c .before .loop-test))
 
 returns : tie.Need-returns Inv-loop μ-loop
 returns c =
     let a = c .before .before .before in
-    let e : toZ w16 (ofZ w16 (c .before .number2 .result)) ≡ B (l a) (j a) = omega signed in
-    rw (e, stepped a, g-lt-true (A (l a) (j a)) (z a .args .end) (omega signed), g-lt-true (z a .args .start) (B (l a) (j a)) (omega signed))
+    let e : toZ w16 (ofZ w16 (c .before .number2 .result)) ≡ endNo (l a) (j a) = omega signed in
+    rw (e, stepped a, g-lt-true (startNo (l a) (j a)) (z a .args .end) (omega signed), g-lt-true (z a .args .start) (endNo (l a) (j a)) (omega signed))
 
 returns-2 : tie.Need-returns-2 Inv-loop μ-loop
 returns-2 c =
@@ -84,7 +83,7 @@ loop-less c = omega arith
 loop-again : tie.Need-loop-again Inv-loop μ-loop
 loop-again c =
     let a = c .before in
-    (omega arith, rw (toZ-ofZ (z a .fits .start), toZ-ofZ (z a .fits .end), stepped a, g-lt-false (A (l a) (j a)) (z a .args .end) (omega signed)))
+    (omega arith, rw (toZ-ofZ (z a .fits .start), toZ-ofZ (z a .fits .end), stepped a, g-lt-false (startNo (l a) (j a)) (z a .args .end) (omega signed)))
 
 returns-3 : tie.Need-returns-3 Inv-loop μ-loop
 returns-3 c =

@@ -1,7 +1,6 @@
 -- `jumps::first_free`: a search by jumps. Assumes nothing.
-use mathlib.Core.Path.{_≡_, sym, ap, _∙_}
+use mathlib.Core.Path.{_≡_, sym, _∙_}
 use mathlib.Core.List.{List}
-use Prim.Native.Nat.{ℕ}
 use lib.IntN.{ℤ, pos, _+ℤ_}
 use lib.Signed.{_≤ℤ_}
 use mir.Syntax.{w16}
@@ -19,7 +18,7 @@ use Rattle.cell_occupancy.proofs.jumps.first_free.Statement.{statement}
 use Rattle.cell_occupancy.proofs.jumps.first_free.Tie as tie
 
 abbrev Inv-loop : tie.InvT-loop
-Inv-loop list used track-start track-end start span line₀ line = (toZ w16 line ≤ℤ pos 20000) × Searched (recs used list) (toZ w16 track-start) (toZ w16 track-end) (toZ w16 start) (toZ w16 span) (toZ w16 line)
+Inv-loop list used track-start track-end start span line₀ line = (toZ w16 line ≤ℤ pos 22000) × Searched (recs used list) (toZ w16 track-start) (toZ w16 track-end) (toZ w16 start) (toZ w16 span) (toZ w16 line)
 
 abbrev μ-loop : tie.MeasureT-loop
 μ-loop list used track-start track-end start span line₀ line = gap (toZ w16 line) (pos 10000)

@@ -1,6 +1,5 @@
 -- `jumps::larger`. Assumes nothing.
-use mathlib.Core.Path.{_≡_, sym, ap, _∙_}
-use lib.IntN.{ℤ}
+use mathlib.Core.Path.{ap, _∙_}
 use mir.Facts.{toZ-ofZ}
 use Rattle.signed.proofs.Laws.{signed, fit16}
 use Rattle.cell_occupancy.specs.declared.jumps.Jump.the-variants.{Next}

@@ -6,9 +6,10 @@ use lib.IntN.{ℤ, pos, _+ℤ_}
 use mir.Syntax.{w16, w32}
 use mir.Val.{toZ, ofZ}
 use Rattle.signed.proofs.Laws.{signed}
-use Rattle.cell_occupancy.specs.Inner.{T, Split}
+use Rattle.cell_occupancy.specs.Inner.{trackNo, Split}
 use Rattle.cell_occupancy.specs.declared.jumps.Jump.the-variants.{Next}
-use Rattle.cell_occupancy.proofs.ByIndex.{holds-front, holds-room}
+use Rattle.intervals.proofs.Lists.{holds-room}
+use Rattle.cell_occupancy.proofs.ByIndex.{holds-front}
 use Rattle.cell_occupancy.proofs.Sorted.{sorted}
 use Rattle.cell_occupancy.proofs.Crossed.{occupied-none, occupied-some}
 use borrow.Author.Needs.{needs}
@@ -59,7 +60,7 @@ returns-3 c =
     let a = c .before .before .before in
     let z = a .before in
     let k : ℕ = a .lower .result in
-    let e : toZ w16 (ofZ w16 (toZ w16 (ofZ w16 (c .before .number .result)) +ℤ pos 1)) ≡ T (z .args .list .now) (k - 1) +ℤ pos 1 = omega (signed, add-t11 c) in
+    let e : toZ w16 (ofZ w16 (toZ w16 (ofZ w16 (c .before .number .result)) +ℤ pos 1)) ≡ trackNo (z .args .list .now) (k - 1) +ℤ pos 1 = omega (signed, add-t11 c) in
     ap Next e ∙ sym (occupied-some (holds-front (z .pre)) (z .args .track-start) (z .args .track-end) k (k - 1) (split a) (omega (arith, c .before .before .if1)) (omega signed))
 
 pub occupied-track-jump-spec : {M : Type 1} → statement M

@@ -7,7 +7,6 @@ use lib.ListN.{getD}
 use lib.IntN.{ℤ, pos}
 use lib.Signed.{_<ℤ_}
 use Rattle.cell_occupancy.specs.Inner.{followAt}
-use Rattle.signed.specs.Parts.{up, dn}
 use Rattle.signed.proofs.Laws.{signed, g-lt-true, g-lt-false}
 use borrow.Author.Needs.{needs}
 use Rattle.cell_occupancy.proofs.rules.follows.Statement.{statement}

@@ -1,12 +1,11 @@
 -- `rules::front`: each record passed goes. Assumes nothing.
-use mathlib.Core.Path.{_≡_, refl, sym, _∙_, subst}
-use mathlib.Core.Bool.{Bool, true, false}
-use Prim.Native.Nat.{ℕ, suc, _+_, _-_, _*_, _/_, _≤_, _<_}
+use mathlib.Core.Path.{_≡_, subst}
+use Prim.Native.Nat.{ℕ, _-_, _/_, _≤_}
 use native.Mathlib.Omega.{arith}
 use borrow.Author.Needs.{needs}
 use lib.ListN.{length}
-use Rattle.cell_occupancy.specs.Inner.{Says, Goes, Front}
-use Rattle.cell_occupancy.proofs.ByIndex.{front-none, front-more, says-past, says-not}
+use Rattle.cell_occupancy.specs.Inner.{Goes, Front}
+use Rattle.cell_occupancy.proofs.Turns.{front-none, front-more, says-past, says-not}
 use Rattle.cell_occupancy.proofs.rules.front.Statement.{statement}
 use Rattle.cell_occupancy.proofs.rules.front.Tie as tie
 

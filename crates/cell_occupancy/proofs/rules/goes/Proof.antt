@@ -1,9 +1,9 @@
 -- `rules::goes`. Assumes nothing.
-use mathlib.Core.Path.{_≡_, sym, _∙_}
-use Prim.Native.Nat.{_*_, _<_}
+use mathlib.Core.Path.{sym, _∙_}
+use Prim.Native.Nat.{_*_}
 use native.Mathlib.Omega.{arith}
 use Rattle.cell_occupancy.specs.Inner.{GoodAt}
-use Rattle.cell_occupancy.proofs.ByIndex.{says-past, says-not, goes-first, goes-next, goes-not}
+use Rattle.cell_occupancy.proofs.Turns.{says-past, says-not, goes-first, goes-next, goes-not}
 use borrow.Author.Needs.{needs}
 use Rattle.cell_occupancy.proofs.rules.goes.Statement.{statement}
 use Rattle.cell_occupancy.proofs.rules.goes.Tie as tie

@@ -1,8 +1,9 @@
 -- `rules::kept`. Assumes nothing.
-use mathlib.Core.Path.{_≡_, sym}
+use mathlib.Core.Path.{sym}
 use Prim.Native.Nat.{_*_}
 use Rattle.cell_occupancy.specs.Inner.{Zeros}
-use Rattle.cell_occupancy.proofs.ByIndex.{says-yes, says-no, both-kept, front-broken}
+use Rattle.cell_occupancy.proofs.ByIndex.{both-kept, front-broken}
+use Rattle.cell_occupancy.proofs.Turns.{says-yes, says-no}
 use borrow.Author.Needs.{needs}
 use Rattle.cell_occupancy.proofs.rules.kept.Statement.{statement}
 use Rattle.cell_occupancy.proofs.rules.kept.Tie as tie

@@ -1,15 +1,15 @@
 -- `rules::zeros`: what was passed is zero. Assumes nothing.
-use mathlib.Core.Path.{_≡_, refl, sym, ap, _∙_}
+use mathlib.Core.Path.{_≡_, ap}
 use mathlib.Core.List.{List}
-use Prim.Native.Nat.{ℕ, _+_, _-_, _≤_, _<_}
+use Prim.Native.Nat.{ℕ, _-_, _≤_, _<_}
 use native.Mathlib.Omega.{arith}
 use borrow.Author.Needs.{needs}
 use lib.ListN.{length, getD}
 use lib.IntN.{ℤ, pos}
 use mir.Syntax.{w16}
-use mir.Val.{SFits, ofZ}
-use Rattle.signed.proofs.Laws.{signed, fit16, same}
-use Rattle.cell_occupancy.proofs.ByIndex.{zero-more}
+use mir.Val.{ofZ}
+use Rattle.signed.proofs.Laws.{fit16, same}
+use Rattle.cell_occupancy.proofs.Turns.{zero-more}
 use Rattle.cell_occupancy.proofs.rules.zeros.Statement.{statement}
 use Rattle.cell_occupancy.proofs.rules.zeros.Tie as tie
 

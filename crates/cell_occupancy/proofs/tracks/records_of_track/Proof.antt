@@ -1,9 +1,7 @@
 -- `tracks::records_of_track`. Assumes nothing.
-use mathlib.Core.Path.{_≡_, sym, ap, _∙_}
-use lib.IntN.{ℤ}
+use mathlib.Core.Path.{_∙_}
 use mir.Facts.{toZ-ofZ}
 use borrow.Author.Tests.{eq-eqb, ne-eqb}
-use Rattle.cell_occupancy.specs.Calls.{trackOf}
 use borrow.Author.Needs.{needs}
 use Rattle.cell_occupancy.proofs.tracks.records_of_track.Statement.{statement}
 use Rattle.cell_occupancy.proofs.tracks.records_of_track.Tie as tie

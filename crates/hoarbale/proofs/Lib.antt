@@ -1,0 +1,3 @@
+pub mod LinePromises
+pub mod Checked
+pub mod Cases

@@ -1,0 +1,7 @@
+-- The answers of the list calls as structs of numbers.
+use Rattle.hoarbale.specs.declared.lists.JumpAnswer.{JumpAnswer}
+use Rattle.hoarbale.specs.Lists.{jumpNumber, jumpFound, jumpLine}
+use Rattle.hoarbale_c.specs.declared.lists.NextLine.{NextLine}
+
+abbrev pub ofJump : JumpAnswer → NextLine
+ofJump r = record { number = jumpNumber r; found = jumpFound r; line = jumpLine r }

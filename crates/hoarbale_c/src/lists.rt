@@ -1,0 +1,74 @@
+// Calls on one list. A returned part of a list becomes its start and its length.
+ghost use mathlib.Core.Path.{_≡_};
+ghost use Rattle.cell_occupancy.specs.Calls.{recordsOfTrack, named, Stands};
+ghost use Rattle.hoarbale.specs.Lists.{collisionAnswer, occupiedAnswer};
+ghost use Rattle.hoarbale_c.specs.Lists.{ofJump};
+
+use hoarbale::lists::JumpAnswer;
+
+#[repr(C)]
+pub struct NextLine {
+    pub number: u8,
+    pub found: bool,
+    pub line: i16,
+}
+
+#[repr(C)]
+pub struct PartOfList {
+    pub start: usize,
+    pub length: usize,
+}
+
+fn told(answer: JumpAnswer) -> NextLine
+    ensures { λ r. ⌜ r ≡ ofJump answer ⌝ }
+{
+    match answer {
+        JumpAnswer::Next(line) => NextLine {
+            number: 0,
+            found: true,
+            line,
+        },
+        JumpAnswer::Free => NextLine {
+            number: 0,
+            found: false,
+            line: 0,
+        },
+        JumpAnswer::Refused(number) => NextLine {
+            number,
+            found: false,
+            line: 0,
+        },
+    }
+}
+
+#[no_mangle]
+pub extern "C" fn hoarbale_collision_jump(
+    list: &[i16],
+    track_start: i16,
+    track_end: i16,
+    start: i16,
+    end: i16,
+) -> NextLine
+    ensures { λ r. ⌜ r ≡ ofJump (collisionAnswer (now (list .entry)) «track_start» «track_end» start end) ⌝ }
+{
+    told(hoarbale::lists::collision_jump(list, track_start, track_end, start, end))
+}
+
+#[no_mangle]
+pub extern "C" fn hoarbale_occupied_track_jump(list: &[i16], track_start: i16, track_end: i16) -> NextLine
+    ensures { λ r. ⌜ r ≡ ofJump (occupiedAnswer (now (list .entry)) «track_start» «track_end») ⌝ }
+{
+    told(hoarbale::lists::occupied_track_jump(list, track_start, track_end))
+}
+
+// Where the part stands that `records_of_track` gives; at 0 where it is empty.
+#[no_mangle]
+pub extern "C" fn hoarbale_records_of_track(rows: &[i16], columns: &[i16], axis: u8, track: i16) -> PartOfList
+    ensures { λ r. ⌜ Stands (named (now (rows .entry)) (now (columns .entry)) axis) track (recordsOfTrack (now (rows .entry)) (now (columns .entry)) axis track) (r .start) (r .length) ⌝ }
+{
+    let place = cell_occupancy::tracks::track_place(rows, columns, axis, track);
+    PartOfList {
+        start: place.start,
+        length: place.length,
+    }
+}

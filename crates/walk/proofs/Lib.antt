@@ -1,0 +1,19 @@
+pub mod Tests
+pub mod SearchLaws
+pub mod LinesLaws
+pub mod FreeLaws
+pub mod WalkLaws
+pub mod Range
+pub mod Cells
+pub mod Checks
+pub mod Placed
+pub mod Answers
+pub mod OnLists
+pub mod Loops
+pub mod Ends
+pub mod Ruled
+pub mod Origins
+pub mod Promises
+pub mod Boards
+mod Limits
+mod Telling

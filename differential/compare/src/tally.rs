@@ -1,0 +1,37 @@
+//! What a part has compared, and how it says so.
+
+#[derive(Default)]
+pub struct Tally {
+    pub compared: u64,
+    pub differ: u64,
+}
+
+/// Differences printed a part; the rest are counted only.
+const SHOWN: u64 = 5;
+
+impl Tally {
+    pub fn differs(&mut self, text: impl FnOnce() -> String) {
+        self.differ += 1;
+        if self.differ <= SHOWN {
+            println!("DIFFERENCE: {}", text());
+        }
+    }
+
+    /// Whether a further difference would be printed, so that making it small is worth while.
+    pub fn shows(&self) -> bool {
+        self.differ < SHOWN
+    }
+
+    pub fn say(&self, part: &str, sides: &str) {
+        println!("{part} ({sides}): compared {}, differ {}", self.compared, self.differ);
+    }
+}
+
+/// What a side gives, or the words of its panic.
+pub fn caught<T>(side: &str, call: impl FnOnce() -> T) -> Result<T, String> {
+    std::panic::catch_unwind(std::panic::AssertUnwindSafe(call)).map_err(|panic| {
+        let words = panic.downcast_ref::<String>().cloned();
+        let words = words.or_else(|| panic.downcast_ref::<&str>().map(|words| words.to_string()));
+        format!("{side} panics: {}", words.unwrap_or_default())
+    })
+}
