@@ -12,9 +12,10 @@ use Rattle.request.specs.declared.FirstBad.the-variants.{At, AllGood}
 
 -- "six signed 16-bit numbers each: column kind, a, b, then row kind, a, b": those of item i
 abbrev pub itemAt : List ℤ → ℕ → Both Half
-itemAt l i =
-    let n = λ (k : ℕ). getD l (6 * i + k) (pos 0) in
-    record { columns = half (n 0) (n 1) (n 2); rows = half (n 3) (n 4) (n 5) }
+itemAt l i = record {
+  columns = half (getD l (6 * i) (pos 0)) (getD l (6 * i + 1) (pos 0)) (getD l (6 * i + 2) (pos 0));
+  rows = half (getD l (6 * i + 3) (pos 0)) (getD l (6 * i + 4) (pos 0)) (getD l (6 * i + 5) (pos 0));
+}
 
 -- "an item breaks its rules; the first such index"
 abbrev pub firstBadOf : Option ℕ → FirstBad
