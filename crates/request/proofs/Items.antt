@@ -41,17 +41,19 @@ halves-at (k ∷ a ∷ b ∷ j ∷ c ∷ d ∷ zs) zero x h = refl
 halves-at (k ∷ a ∷ b ∷ j ∷ c ∷ d ∷ zs) (suc i) x h = halves-at zs i x (omega arith) ∙ sym (item-next k a b j c d zs i)
 
 -- what is left of the items at item i
-pub halves-drop : (l : List ℤ) (i : ℕ) → i < length l / 6 → drop i (halves l) ≡ itemAt l i ∷ drop (suc i) (halves l)
+pub halves-drop : (l : List ℤ) (i : ℕ) → i < length l / 6 → drop i (halves l) ≡ itemAt l i ∷ drop (i + 1) (halves l)
 halves-drop l i h =
-    drop-cons (halves l) i (itemAt l i) (omega (arith, halves-length l))
-    ∙ ap (λ (x : Both Half). x ∷ drop (suc i) (halves l)) (halves-at l i (itemAt l i) h)
+    let e : i + 1 ≡ suc i = omega arith in
+    rw e
+    (drop-cons (halves l) i (itemAt l i) (omega (arith, halves-length l))
+    ∙ ap (λ (x : Both Half). x ∷ drop (suc i) (halves l)) (halves-at l i (itemAt l i) h))
 
 -- ---- the check of the items
 
 -- a good item is passed
-pub bad-pass : (l : List ℤ) (i : ℕ) → i < length l / 6 → goodItem (itemAt l i) ≡ true → badFrom i (drop i (halves l)) ≡ badFrom (suc i) (drop (suc i) (halves l))
+pub bad-pass : (l : List ℤ) (i : ℕ) → i < length l / 6 → goodItem (itemAt l i) ≡ true → badFrom i (drop i (halves l)) ≡ badFrom (i + 1) (drop (i + 1) (halves l))
 unfolding badFrom
-bad-pass l i h e = rw (halves-drop l i h, e)
+bad-pass l i h g = let e : i + 1 ≡ suc i = omega arith in rw (halves-drop l i h, e, g)
 
 -- one that is not is told
 pub bad-here : (l : List ℤ) (i : ℕ) → i < length l / 6 → goodItem (itemAt l i) ≡ false → badFrom i (drop i (halves l)) ≡ some i

@@ -67,8 +67,16 @@ fn item_is_good(items: &[i16], i: usize) -> bool
     ensures { λ r. ⌜ r ≡ goodItem (itemAt (now (items .entry)) i) ⌝ }
 {
     let at = 6 * i;
-    if half_is_good(number(items, at), number(items, at + 1), number(items, at + 2)) {
-        return half_is_good(number(items, at + 3), number(items, at + 4), number(items, at + 5));
+    if half_is_good(
+        number(items, at),
+        number(items, at + 1),
+        number(items, at + 2),
+    ) {
+        return half_is_good(
+            number(items, at + 3),
+            number(items, at + 4),
+            number(items, at + 5),
+        );
     }
     false
 }
@@ -107,7 +115,15 @@ pub fn placement_on(items: &[i16], i: usize, columns: bool) -> Placement
 {
     let at = 6 * i;
     if columns {
-        return placing(number(items, at), number(items, at + 1), number(items, at + 2));
+        return placing(
+            number(items, at),
+            number(items, at + 1),
+            number(items, at + 2),
+        );
     }
-    placing(number(items, at + 3), number(items, at + 4), number(items, at + 5))
+    placing(
+        number(items, at + 3),
+        number(items, at + 4),
+        number(items, at + 5),
+    )
 }
