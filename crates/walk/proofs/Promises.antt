@@ -14,6 +14,7 @@ use lib.ListN.{length, drop, replicate, getD, length-map}
 use Rattle.signed.proofs.Laws.{signed, by-test}
 use Rattle.intervals.specs.Records.{Rec}
 use Rattle.intervals.specs.OverInt.{stateAt, cellOf, keeps, ok, flat, digits}
+use Rattle.intervals.specs.Lists.{rules, Holds}
 use Rattle.intervals.proofs.Flat as Fl
 use Rattle.intervals.proofs.OverInt.{digit-laws, is-painted}
 use Rattle.grid_track_counts.specs.declared.TrackCounts.{TrackCounts}
@@ -30,7 +31,7 @@ use Rattle.walk.proofs.LinesLaws.{each-on, GrowsBoth, CoversArea, start
 use Rattle.walk.proofs.FreeLaws.{Tiled}
 use Rattle.walk.proofs.WalkLaws.{Kept, Clear, no-growth, walk-kept, Least, least-none, counts-least, grows-same, WithStates, states-kept, Roomy, walk-roomy, walk-keeps}
 use Rattle.walk.proofs.Range.{Run4, run4}
-use Rattle.walk.proofs.Cells.{history, Coloured, Cell, Solid, history-fits, records-keep, records-cell, free-cells, free-list}
+use Rattle.walk.proofs.Cells.{history, Coloured, Cell, Solid, history-fits, records-rules, records-hold, records-cell, free-cells, free-list}
 use Rattle.walk.proofs.Checks.{checked-none, checked-low, good-items, good-queue, halves-length}
 use Rattle.walk.proofs.Placed.{Has, walk-has, walk-count, queue-length, queue-all, queue-below, queue-item}
 use Rattle.walk.proofs.Answers.{written-is}
@@ -180,9 +181,9 @@ module _ (r : Request) (passed : checked r ≡ none) (b : Board) (run : runOf r 
       go true i = rw (h .first (eqb-true (t .step) 1 i))
       go false i = rw (h .others (eqb-false (t .step) 1 i))
 
-  -- the lists keep the list rules, and a cell has the state of the last tile painted over it
-  pub lists-keep : (x : Axis) → keeps (recordsOn x (b .tiles)) ≡ true
-  lists-keep x = records-keep x (b .tiles) tiles-in-grid (coloured states)
+  -- the records keep the list rules, and a cell has the state of the last tile painted over it
+  pub lists-rules : (x : Axis) → rules (recordsOn x (b .tiles)) ≡ true
+  lists-rules x = records-rules x (b .tiles) tiles-in-grid (coloured states)
 
   pub lists-cells : (x : Axis) (u q : ℤ) → cellOf (recordsOn x (b .tiles)) u q ≡ stateAt (history x (b .tiles)) u q
   lists-cells x u q = records-cell x (b .tiles) tiles-in-grid (coloured states) u q
@@ -200,6 +201,15 @@ module _ (r : Request) (passed : checked r ≡ none) (b : Board) (run : runOf r 
   pub roomy : Roomy (settingOf r) b
   unfolding recordsOn
   roomy = walk-roomy (settingOf r) (growthOf r) (queueOf r) (startOf r) b (record { rows = omega arith; columns = omega arith }) e
+
+  -- and so do the row list and the column list that come back: those records, then zeros
+  pub rows-hold : Holds (flat (r .lists .rows) (recordsOn row (b .tiles))) (length (recordsOn row (b .tiles)))
+  unfolding settingOf
+  rows-hold = records-hold row (r .lists .rows) (b .tiles) tiles-in-grid (coloured states) (roomy .rows)
+
+  pub columns-hold : Holds (flat (r .lists .columns) (recordsOn col (b .tiles))) (length (recordsOn col (b .tiles)))
+  unfolding settingOf
+  columns-hold = records-hold col (r .lists .columns) (b .tiles) tiles-in-grid (coloured states) (roomy .columns)
 
   pub rows-length : length (flat (r .lists .rows) (recordsOn row (b .tiles))) ≡ r .lists .rows
   unfolding settingOf
