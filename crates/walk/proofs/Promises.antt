@@ -23,7 +23,7 @@ use Rattle.walk.specs.declared.Placement.the-variants.{Spanned}
 use Rattle.walk.specs.Axis.{Axis, col, row, other, Both, on, Extent}
 use Rattle.walk.specs.Search.{Place}
 use Rattle.walk.specs.Walk.{Queued, Tile, Board, Setting, Run, going, stopped, free, tileOf, laidOn, recordsOn, step4, each, begin4, walk}
-use Rattle.walk.specs.Request.{Request, Refusal, Outcome, refused, answered, answerNumbers, checked, halves, itemOf, itemCount, settingOf, upTo, queue, itemsOf, queueOf, startOf, growthOf, runOf, answersOf, told, outcome, answersLeft, rowsLeft, columnsLeft}
+use Rattle.walk.specs.Request.{Request, Refusal, Outcome, refused, answered, answerNumbers, checked, halves, itemOf, itemCount, settingOf, upTo, queue, itemsOf, queueOf, startOf, growthOf, runOf, numbers, answerOf, answersOf, told, outcome, answersLeft, rowsLeft, columnsLeft}
 use Rattle.walk.specs.Rules.{Walked, Full}
 use Rattle.walk.specs.OnList.{written}
 use Rattle.walk.proofs.Tests.{Every, nil, more, Mem}
@@ -34,9 +34,9 @@ use Rattle.walk.proofs.Range.{Run4, run4}
 use Rattle.walk.proofs.Cells.{history, Coloured, Cell, Solid, history-fits, records-rules, records-hold, records-cell, free-cells, free-list}
 use Rattle.walk.proofs.Checks.{checked-none, checked-low, good-items, good-queue, halves-length}
 use Rattle.walk.proofs.Placed.{Has, walk-has, walk-count, queue-length, queue-all, queue-below, queue-item}
-use Rattle.walk.proofs.Answers.{written-is}
+use Rattle.walk.proofs.Answers.{written-is, AnswerOf, answer-of}
 use Rattle.walk.proofs.Ruled.{walk-ruled, walk-only, walked-full, full-walked, full-number}
-use Rattle.walk.proofs.Origins.{Origin, Origins, origin-of, walk-origins, Before, clear-of}
+use Rattle.walk.proofs.Origins.{Origin, Origins, origin-of, origin-index, walk-origins, Before, clear-of}
 
 items-length : (r : Request) → length (itemsOf r) ≡ itemCount r
 items-length r = length-map (halves (r .items)) itemOf ∙ halves-length (r .items)
@@ -148,7 +148,7 @@ module _ (r : Request) (passed : checked r ≡ none) (b : Board) (run : runOf r 
   unmarked-cells x ts m z a u q c = free-cells a ts (x .area) (clear-of unmarked-clear m z) u q c
 
   -- every tile comes from an item of the request, by its step's rule on the board as it stood before it, with the least counts for the tiles laid by then
-  -- (`fixed-takes`, `mark-is` and `mark-bits` of Origins: "Items fixed in both axes take their lines"; "Mark: the sum of 1 pressed, 2 both axes fixed, 4 overwide")
+  -- (`fixed-takes`, `origin-mark` and `mark-bits` of Origins: "Items fixed in both axes take their lines"; "Mark: the sum of 1 pressed, 2 both axes fixed, 4 overwide")
   pub origins : (once : Place) × Origins (settingOf r) once (r .counts) (queueOf r) (b .tiles)
   origins = walk-origins (settingOf r) (queueOf r) (startOf r) b refl (start-kept r passed) e
 
@@ -237,6 +237,29 @@ module _ (r : Request) (passed : checked r ≡ none) (b : Board) (run : runOf r 
       let n = items-length r in
       let q = queue-length (length (itemsOf r)) 0 (itemsOf r) in
       omega (arith, walk-count (settingOf r) (growthOf r) (queueOf r) (startOf r) b e)
+
+  -- "five numbers an item": item i's answer is that of a tile which comes from item i of the request
+  pub record Answer (i : ℕ) : Type 0 where
+    pub tile : Tile
+    pub earlier-tiles : List Tile
+    pub laid : Before tile earlier-tiles (b .tiles)
+    pub is : answerOf i (b .tiles) ≡ numbers tile
+    pub from : Origin (settingOf r) (origins .0) (r .counts) (queueOf r) tile earlier-tiles
+    pub item : from .item .item ≡ getD (itemsOf r) i (record { columns = Spanned 1; rows = Spanned 1 })
+
+  pub answers : (i : ℕ) → i < itemCount r → Answer i
+  answers i h =
+      let a = answer-of i (all-placed i h) in
+      let o = origin (a .tile) (a .earlier-tiles) (a .laid) in
+      let j : o .item .index ≡ i = origin-index o ∙ a .index in
+      record {
+        tile = a .tile;
+        earlier-tiles = a .earlier-tiles;
+        laid = a .laid;
+        is = a .is;
+        from = o;
+        item = queued-item r (o .item) (o .queued) ∙ ap (λ (n : ℕ). getD (itemsOf r) n (record { columns = Spanned 1; rows = Spanned 1 })) j;
+      }
 
   -- for code: the answer buffer, written item by item, is in the end what the outcome says
   pub answers-written : (old : List ℤ) → length old ≡ r .answers → written (b .tiles) old ≡ answersLeft r old (outcome r)
