@@ -34,7 +34,7 @@ use Rattle.walk.proofs.Range.{Run4, run4}
 use Rattle.walk.proofs.Cells.{history, Coloured, Cell, Solid, history-fits, records-rules, records-hold, records-cell, free-cells, free-list}
 use Rattle.walk.proofs.Checks.{checked-none, checked-low, good-items, good-queue, halves-length}
 use Rattle.walk.proofs.Placed.{Has, walk-has, walk-count, queue-length, queue-all, queue-below, queue-item}
-use Rattle.walk.proofs.Answers.{written-is, AnswerOf, answer-of}
+use Rattle.walk.proofs.Answers.{written-is, answer-of}
 use Rattle.walk.proofs.Ruled.{walk-ruled, walk-only, walked-full, full-walked, full-number}
 use Rattle.walk.proofs.Origins.{Origin, Origins, origin-of, origin-index, walk-origins, Before, clear-of}
 
