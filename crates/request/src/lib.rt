@@ -64,7 +64,7 @@ fn half_is_good(kind: i16, a: i16, b: i16) -> bool
     false
 }
 
-// Number k of item i.
+// Number k of item i. That it fits is part of the promise, so that a test of it is a fact with nothing to cite.
 fn part(items: &[i16], i: usize, k: usize) -> i16
     requires { ⌜ 6 * i + 6 ≤ length (now items) ⌝ }
     requires { ⌜ k < 6 ⌝ }
