@@ -24,9 +24,8 @@ use Rattle.request.specs.Items.{itemAt}
 -- the items behind the first, counted afresh
 item-next : (k a b j c d : ℤ) (zs : List ℤ) (i : ℕ) → itemAt (k ∷ a ∷ b ∷ j ∷ c ∷ d ∷ zs) (suc i) ≡ itemAt zs i
 item-next k a b j c d zs i =
-    let e₀ : 6 * suc i ≡ suc (suc (suc (suc (suc (suc (6 * i)))))) = omega arith in
     let e : (m : ℕ) → 6 * suc i + m ≡ suc (suc (suc (suc (suc (suc (6 * i + m)))))) = λ m. omega arith in
-    rw (e 1, e 2, e 3, e 4, e 5, e₀)
+    rw (e 0, e 1, e 2, e 3, e 4, e 5)
 
 -- item i of the list of items
 pub halves-at : (l : List ℤ) (i : ℕ) (x : Both Half) → i < length l / 6 → getD (halves l) i x ≡ itemAt l i

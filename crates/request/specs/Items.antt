@@ -10,11 +10,15 @@ use Rattle.walk.specs.Request.{Half, half}
 use Rattle.request.specs.declared.FirstBad.{FirstBad}
 use Rattle.request.specs.declared.FirstBad.the-variants.{At, AllGood}
 
+-- number k of item i
+abbrev pub numberAt : List ℤ → ℕ → ℕ → ℤ
+numberAt l i k = getD l (6 * i + k) (pos 0)
+
 -- "six signed 16-bit numbers each: column kind, a, b, then row kind, a, b": those of item i
 abbrev pub itemAt : List ℤ → ℕ → Both Half
 itemAt l i = record {
-  columns = half (getD l (6 * i) (pos 0)) (getD l (6 * i + 1) (pos 0)) (getD l (6 * i + 2) (pos 0));
-  rows = half (getD l (6 * i + 3) (pos 0)) (getD l (6 * i + 4) (pos 0)) (getD l (6 * i + 5) (pos 0));
+  columns = half (numberAt l i 0) (numberAt l i 1) (numberAt l i 2);
+  rows = half (numberAt l i 3) (numberAt l i 4) (numberAt l i 5);
 }
 
 -- "an item breaks its rules; the first such index"

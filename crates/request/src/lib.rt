@@ -1,12 +1,14 @@
 // The items of a request as they are lent: six numbers each. Whether each keeps its rules, and where an item goes in an axis.
 ghost use mathlib.Core.Path.{_≡_};
 ghost use mathlib.Core.Bool.{true};
-ghost use Prim.Native.Nat.{_+_, _*_, _≤_};
+ghost use Prim.Native.Nat.{_+_, _*_, _≤_, _<_};
 ghost use lib.ListN.{length};
 ghost use lib.IntN.{pos};
+ghost use mir.Syntax.{w16};
+ghost use mir.Val.{SFits};
 ghost use Rattle.walk.specs.Axis.{on};
 ghost use Rattle.walk.specs.Request.{half, halves, goodHalf, goodItem, badFrom, placingOf, itemOf};
-ghost use Rattle.request.specs.Items.{itemAt, firstBadOf, axisOf};
+ghost use Rattle.request.specs.Items.{numberAt, itemAt, firstBadOf, axisOf};
 use cell_occupancy::rules::number;
 use coordinates::Lines;
 use walk::Placement;
@@ -62,21 +64,22 @@ fn half_is_good(kind: i16, a: i16, b: i16) -> bool
     false
 }
 
+// Number k of item i. That it fits is part of the promise, so that a test of it is a fact with nothing to cite.
+fn part(items: &[i16], i: usize, k: usize) -> i16
+    requires { ⌜ 6 * i + 6 ≤ length (now items) ⌝ }
+    requires { ⌜ k < 6 ⌝ }
+    ensures { λ r. ⌜ SFits w16 r ⌝ }
+    ensures { λ r. ⌜ r ≡ numberAt (now (items .entry)) i k ⌝ }
+{
+    number(items, 6 * i + k)
+}
+
 fn item_is_good(items: &[i16], i: usize) -> bool
     requires { ⌜ 6 * i + 6 ≤ length (now items) ⌝ }
     ensures { λ r. ⌜ r ≡ goodItem (itemAt (now (items .entry)) i) ⌝ }
 {
-    let at = 6 * i;
-    if half_is_good(
-        number(items, at),
-        number(items, at + 1),
-        number(items, at + 2),
-    ) {
-        return half_is_good(
-            number(items, at + 3),
-            number(items, at + 4),
-            number(items, at + 5),
-        );
+    if half_is_good(part(items, i, 0), part(items, i, 1), part(items, i, 2)) {
+        return half_is_good(part(items, i, 3), part(items, i, 4), part(items, i, 5));
     }
     false
 }
@@ -113,17 +116,8 @@ pub fn placement_on(items: &[i16], i: usize, columns: bool) -> Placement
     requires { ⌜ goodItem (itemAt (now items) i) ≡ true ⌝ }
     ensures { λ r. ⌜ r ≡ on (axisOf columns) (itemOf (itemAt (now (items .entry)) i)) ⌝ }
 {
-    let at = 6 * i;
     if columns {
-        return placing(
-            number(items, at),
-            number(items, at + 1),
-            number(items, at + 2),
-        );
+        return placing(part(items, i, 0), part(items, i, 1), part(items, i, 2));
     }
-    placing(
-        number(items, at + 3),
-        number(items, at + 4),
-        number(items, at + 5),
-    )
+    placing(part(items, i, 3), part(items, i, 4), part(items, i, 5))
 }
