@@ -31,3 +31,50 @@ pub fn first_free_line(list: &[i16], used: usize, tracks: Lines, start: i16, spa
         line = e;
     }
 }
+
+// A primary and a secondary line.
+pub struct Pair {
+    pub primary: i16,
+    pub secondary: i16,
+}
+
+// The first pair of lines at which a tile lies clear: on the secondary line of `from` those from its primary line on, then on each
+// next secondary line those from the grid's start on, as long as the tile ends at or before the grid's end. The list's tracks are
+// those of the secondary axis.
+pub fn first_free_pair(
+    list: &[i16],
+    used: usize,
+    grid: Lines,
+    primary_span: u16,
+    secondary_span: u16,
+    from: Pair,
+) -> Pair
+    requires { ⌜ Holds (now list) used ⌝ }
+    requires { ⌜ (1 ≤ «primary_span») × («primary_span» ≤ 10000) ⌝ }
+    requires { ⌜ (1 ≤ «secondary_span») × («secondary_span» ≤ 10000) ⌝ }
+    requires { ⌜ ((grid .start +ℤ pos «primary_span») ≤ℤ grid .end) × (grid .end ≤ℤ pos 10000) ⌝ }
+    requires { ⌜ (from .primary ≤ℤ pos 20000) × (from .secondary ≤ℤ pos 12000) ⌝ }
+    ensures { λ r. ⌜ at (r .primary) (r .secondary) ≡ firstPair (placesTo (grid .end) «primary_span») (grid .start) (λ y x. clear (recs used (now (list .entry))) (Axis.from x «secondary_span») (Axis.from y «primary_span»)) (from .primary) (from .secondary) ⌝ }
+{
+    let grid_start = grid.start;
+    let grid_end = grid.end;
+    let n = primary_span as i16;
+    let m = secondary_span as i16;
+    let mut primary = from.primary;
+    let mut secondary = from.secondary;
+    let line = 'search: loop {
+        while primary + n <= grid_end {
+            let jump = collision_jump(list, used, secondary, secondary + m, primary, primary + n);
+            let Jump::Next(e) = jump else {
+                break 'search primary;
+            };
+            primary = e;
+        }
+        secondary += 1;
+        primary = grid_start;
+    };
+    Pair {
+        primary: line,
+        secondary,
+    }
+}
