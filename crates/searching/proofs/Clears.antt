@@ -15,7 +15,7 @@ use Rattle.intervals.proofs.Line.{Test, yea, nay, test, no-both}
 use Rattle.intervals.proofs.Grid.{and-l, and-r}
 use Rattle.intervals.proofs.OverInt.{span-is}
 use Rattle.coordinates.specs.declared.Lines.{Lines}
-use Rattle.coordinates.specs.Line.{lines}
+use Rattle.coordinates.specs.Line.{lines, lowest, highest}
 use Rattle.cell_occupancy.specs.Calls.{extentOf, collisionJump, occupiedJump}
 use Rattle.cell_occupancy.specs.declared.jumps.Jump.{Jump}
 use Rattle.cell_occupancy.specs.declared.jumps.Jump.the-variants as J
@@ -25,7 +25,8 @@ use Rattle.cell_occupancy.proofs.Collisions.{extent-last, extent-free, over-fre
 use Rattle.cell_occupancy.proofs.Promises.{none-if-clear, past-the-last}
 use Rattle.walk.specs.Axis.{Axis, col, row, laid, meets}
 use Rattle.walk.specs.OnList.{hit, freeIn}
-use Rattle.searching.specs.Clear.{clear, Inside}
+use Rattle.walk.proofs.Tests.{same-bool}
+use Rattle.searching.specs.Clear.{clear, wholeGrid, Inside}
 use Rattle.searching.specs.Clear as I
 
 -- free on a list is the same whichever axis its tracks are of
@@ -71,7 +72,7 @@ pub has-track : {t c d : ℤ} (rs : List (Rec ℤ)) → allIn rs ≡ true → Ha
 has-track {t} {c} {d} (rec u x y s ∷ rs) h here = in-is t c d s (and-l (inGrid (rec t c d s)) (allIn rs) h) .t-hi
 has-track (rec u x y s ∷ rs) h (there m) = has-track rs (and-r (inGrid (rec u x y s)) (allIn rs) h) m
 
-pub inside-has : {g e t c d : ℤ} {rs : List (Rec ℤ)} → Inside g e rs → Has t c d rs → (g ≤ℤ c) × (d ≤ℤ e)
+pub inside-has : {g e t c d : ℤ} {rs : List (Rec ℤ)} → Inside rs g e → Has t c d rs → (g ≤ℤ c) × (d ≤ℤ e)
 inside-has (I.more a b w) here = (a, b)
 inside-has (I.more a b w) (there m) = inside-has w m
 
@@ -82,6 +83,14 @@ data Shape (j : Jump) : Type 0 where
 shape : (j : Jump) → Shape j
 shape (J.Next e) = next e refl
 shape J.Free = none refl
+
+all-inside : (rs : List (Rec ℤ)) → allIn rs ≡ true → Inside rs lowest highest
+all-inside [] h = I.none
+all-inside (rec t c d s ∷ rs) h = let k = in-is t c d s (and-l (inGrid (rec t c d s)) (allIn rs) h) in I.more (k .lo) (k .hi) (all-inside rs (and-r (inGrid (rec t c d s)) (allIn rs) h))
+
+-- the rules keep every record inside the limited grid
+pub rules-inside : (rs : List (Rec ℤ)) → rules rs ≡ true → Inside rs lowest highest
+rules-inside rs h = all-inside rs (and-r (keeps rs) (allIn rs) h)
 
 -- ---- the collision jump
 
@@ -161,7 +170,7 @@ clear-tracks-beyond rs h l w p = go (look rs l w)
 
 -- ---- the occupied-track jump, where the lines are those of the whole grid: every record on one of the tracks is in the way
 
-module _ (rs : List (Rec ℤ)) (h : rules rs ≡ true) (g e : ℤ) (within : Inside g e rs) where
+module _ (rs : List (Rec ℤ)) (h : rules rs ≡ true) (g e : ℤ) (within : Inside rs g e) where
   across : {t c d : ℤ} → Has t c d rs → (c <ℤ e) × (g <ℤ d)
   across m = let o = has-order (sound rs h) m .0 in let i = inside-has within m in let x = i .0 in let y = i .1 in (omega signed, omega signed)
 
@@ -217,11 +226,18 @@ module _ (rs : List (Rec ℤ)) (h : rules rs ≡ true) (g e : ℤ) (within : Ins
         missed = λ y z a b c. blocks (lines y z) (lines g e) (k .has) (omega signed) (omega signed) (o .0) (o .1);
       }
 
+-- lines that hold every record are as good as the whole limited grid
+pub stripe-grid : (rs : List (Rec ℤ)) → rules rs ≡ true → (g e : ℤ) → Inside rs g e → (tracks : Lines) → clear rs tracks (lines g e) ≡ clear rs tracks wholeGrid
+stripe-grid rs h g e w l =
+    same-bool (clear rs l (lines g e)) (clear rs l wholeGrid)
+    (λ f. free-stripe rs h lowest highest (rules-inside rs h) (l .start) (l .end) .0 (free-stripe rs h g e w (l .start) (l .end) .1 f))
+    (λ f. free-stripe rs h g e w (l .start) (l .end) .0 (free-stripe rs h lowest highest (rules-inside rs h) (l .start) (l .end) .1 f))
+
 -- for a caller that knows the cells: where every cell with a state lies between two lines, so does every record
-pub inside-cells : (g e : ℤ) (rs : List (Rec ℤ)) → rules rs ≡ true → ((t p : ℤ) → cellOf rs t p ≢ 0 → (g ≤ℤ p) × (p <ℤ e)) → Inside g e rs
+pub inside-cells : (g e : ℤ) (rs : List (Rec ℤ)) → rules rs ≡ true → ((t p : ℤ) → cellOf rs t p ≢ 0 → (g ≤ℤ p) × (p <ℤ e)) → Inside rs g e
 inside-cells g e rs h k = each rs (λ t c d m. m)
   where
-    each : (qs : List (Rec ℤ)) → ((t c d : ℤ) → Has t c d qs → Has t c d rs) → Inside g e qs
+    each : (qs : List (Rec ℤ)) → ((t c d : ℤ) → Has t c d qs → Has t c d rs) → Inside qs g e
     each [] f = I.none
     each (rec t c d s ∷ qs) f =
         let m : Has t c d rs = f t c d here in

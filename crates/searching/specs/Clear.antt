@@ -6,6 +6,7 @@ use lib.IntN.{ℤ}
 use lib.Signed.{_≤ℤ_}
 use Rattle.intervals.specs.Records.{Rec, rec}
 use Rattle.coordinates.specs.declared.Lines.{Lines}
+use Rattle.coordinates.specs.Line.{lines, lowest, highest}
 use Rattle.walk.specs.Axis.{col, laid}
 use Rattle.walk.specs.OnList.{freeIn}
 
@@ -14,7 +15,11 @@ use Rattle.walk.specs.OnList.{freeIn}
 abbrev pub clear : List (Rec ℤ) → Lines → Lines → Bool
 clear rs tracks along = freeIn col rs (laid col tracks along)
 
+-- the lines of the limited grid
+abbrev pub wholeGrid : Lines
+wholeGrid = lines lowest highest
+
 -- every record lies between the lines g and e
-pub data Inside (g e : ℤ) : List (Rec ℤ) → Type 0 where
-  none : Inside g e []
-  more : {t a b : ℤ} {s : ℕ} {rs : List (Rec ℤ)} → g ≤ℤ a → b ≤ℤ e → Inside g e rs → Inside g e (rec t a b s ∷ rs)
+pub data Inside : List (Rec ℤ) → ℤ → ℤ → Type 0 where
+  none : {g e : ℤ} → Inside [] g e
+  more : {g e t a b : ℤ} {s : ℕ} {rs : List (Rec ℤ)} → g ≤ℤ a → b ≤ℤ e → Inside rs g e → Inside (rec t a b s ∷ rs) g e

@@ -7,8 +7,9 @@ ghost use lib.Signed.{_≤ℤ_, _<ℤ_};
 ghost use Rattle.intervals.specs.Lists.{Holds, recs};
 ghost use Rattle.walk.specs.Axis as Axis;
 ghost use Rattle.walk.specs.Search.{firstLine, firstPair, placesTo, at};
-ghost use Rattle.searching.specs.Clear.{clear, Inside};
+ghost use Rattle.searching.specs.Clear.{clear, wholeGrid};
 use cell_occupancy::jumps::collision_jump;
+use cell_occupancy::jumps::occupied_track_jump;
 use cell_occupancy::jumps::Jump;
 use coordinates::Lines;
 
@@ -29,6 +30,24 @@ pub fn first_free_line(list: &[i16], used: usize, tracks: Lines, start: i16, spa
             return line;
         };
         line = e;
+    }
+}
+
+// The first track line from `start` on from which `span` tracks have no record at all: for a tile as wide as the grid, which has
+// room on tracks without a record and on no others.
+pub fn first_free_stripe(list: &[i16], used: usize, start: i16, span: u16) -> i16
+    requires { ⌜ Holds (now list) used ⌝ }
+    requires { ⌜ (1 ≤ span) × ((span ≤ 10000) × (start ≤ℤ pos 20000)) ⌝ }
+    ensures { λ r. ⌜ r ≡ firstLine (λ x. clear (recs used (now (list .entry))) (Axis.from x span) wholeGrid) start ⌝ }
+{
+    let m = span as i16;
+    let mut track = start;
+    loop {
+        let jump = occupied_track_jump(list, used, track, track + m);
+        let Jump::Next(after) = jump else {
+            return track;
+        };
+        track = after;
     }
 }
 
