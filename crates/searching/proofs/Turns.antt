@@ -105,7 +105,7 @@ module _ (rs : List (Rec ℤ)) (h : rules rs ≡ true) (n m : ℕ) (g e : ℤ) (
         past = l;
         inside = k .inside;
         same = firstPair-skip n e g (clearPair rs n m) past-pairs fits p f s (omega signed)
-        (λ y v w. subst (λ (z : ℤ). clear rs (lines s z) (from y n) ≡ false) i (k .missed y (y +ℤ pos n) v w (omega (signed, sum y (pos n)))));
+            (λ y v w. subst (λ (z : ℤ). clear rs (lines s z) (from y n) ≡ false) i (k .missed y (y +ℤ pos n) v w (omega (signed, sum y (pos n)))));
       }
 
   -- no place is left on this secondary line

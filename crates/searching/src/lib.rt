@@ -7,10 +7,10 @@ ghost use lib.Signed.{_≤ℤ_, _<ℤ_};
 ghost use Rattle.intervals.specs.Lists.{Holds, recs};
 ghost use Rattle.walk.specs.Axis as Axis;
 ghost use Rattle.walk.specs.Search.{firstLine, firstPair, placesTo, at};
-ghost use Rattle.searching.specs.Clear.{clear, wholeGrid};
+ghost use Rattle.searching.specs.Clear.{clear, wholeGrid, Inside};
+use cell_occupancy::jumps::Jump;
 use cell_occupancy::jumps::collision_jump;
 use cell_occupancy::jumps::occupied_track_jump;
-use cell_occupancy::jumps::Jump;
 use coordinates::Lines;
 
 // The first line from `start` on at which a span lies clear of the records over the tracks.
@@ -59,7 +59,7 @@ pub struct Pair {
 
 // The first pair of lines at which a tile lies clear: on the secondary line of `from` those from its primary line on, then on each
 // next secondary line those from the grid's start on, as long as the tile ends at or before the grid's end. The list's tracks are
-// those of the secondary axis.
+// those of the secondary axis. A tile as wide as the grid has one place on a line, so its search goes by whole tracks.
 pub fn first_free_pair(
     list: &[i16],
     used: usize,
@@ -72,6 +72,7 @@ pub fn first_free_pair(
     requires { ⌜ (1 ≤ «primary_span») × («primary_span» ≤ 10000) ⌝ }
     requires { ⌜ (1 ≤ «secondary_span») × («secondary_span» ≤ 10000) ⌝ }
     requires { ⌜ ((grid .start +ℤ pos «primary_span») ≤ℤ grid .end) × (grid .end ≤ℤ pos 10000) ⌝ }
+    requires { ⌜ Inside (recs used (now list)) (grid .start) (grid .end) ⌝ }
     requires { ⌜ (from .primary ≤ℤ pos 20000) × (from .secondary ≤ℤ pos 12000) ⌝ }
     ensures { λ r. ⌜ at (r .primary) (r .secondary) ≡ firstPair (placesTo (grid .end) «primary_span») (grid .start) (λ y x. clear (recs used (now (list .entry))) (Axis.from x «secondary_span») (Axis.from y «primary_span»)) (from .primary) (from .secondary) ⌝ }
 {
@@ -79,9 +80,14 @@ pub fn first_free_pair(
     let grid_end = grid.end;
     let n = primary_span as i16;
     let m = secondary_span as i16;
+    let last = grid_end - n;
     let mut primary = from.primary;
     let mut secondary = from.secondary;
     let line = 'search: loop {
+        if primary == grid_start && last == grid_start {
+            secondary = first_free_stripe(list, used, secondary, secondary_span);
+            break 'search grid_start;
+        }
         while primary + n <= grid_end {
             let jump = collision_jump(list, used, secondary, secondary + m, primary, primary + n);
             let Jump::Next(e) = jump else {
