@@ -1,7 +1,7 @@
 -- Laying one tile on the lists is `put` on the board: the one law by which every step's item is proved.
 use mathlib.Core.Path.{_≡_, refl, sym, ap, subst, _∙_}
 use mathlib.Core.Logic.{_⊎_, inl, inr, ⊎-elim}
-use mathlib.Core.Bool.{Bool, true, false, cond, _||_}
+use mathlib.Core.Bool.{Bool, true, false, not, cond, _||_}
 use mathlib.Core.List.{List, [], _∷_}
 use Prim.Native.Nat.{ℕ, _+_, _*_, _≤_, _<_}
 use native.Mathlib.Omega.{arith}
@@ -9,7 +9,7 @@ use borrow.Author.Tests.{ltb-false}
 use lib.Dec.{ltb}
 use lib.IntN.{ℤ, pos}
 use lib.ListN.{length}
-use lib.Seq.{sets}
+use lib.Seq.{sets, length-sets}
 use Rattle.intervals.specs.Records.{Rec, Area, area}
 use Rattle.intervals.specs.OverInt.{paintList, flat, digits, ok}
 use Rattle.intervals.specs.Lists.{recs, Holds}
@@ -22,6 +22,7 @@ use Rattle.coordinates.specs.Line.{limited, pressed}
 use Rattle.grid_track_counts.specs.Counts.{grown, Sound}
 use Rattle.walk.specs.Axis.{Axis, col, row, other, Both, on, laid, Extent, limitedArea, pressedArea, grownBoth}
 use Rattle.walk.specs.Walk.{Board, Tile, Setting, Choice, Run, going, stopped, bit, tileOf, laidOn, areaOn, recordsOn, short, judged, put}
+use Rattle.walk.specs.Search.{at}
 use Rattle.walk.specs.Request.{numbers}
 use Rattle.walk.specs.OnList.{written}
 use Rattle.walk.proofs.Tests.{Every, nil, more}
@@ -213,3 +214,58 @@ module _ (columns dense : Bool) (room : Both ℕ) (old : List ℤ) (b : Board) (
         primary-long = ap length (q .onto-primary) ∙ primary-length k;
         secondary-long = ap length (q .onto-secondary) ∙ secondary-length k
       }))
+
+-- ---- lengths stay
+
+fits-long : (n : ℕ) (rs : List (Rec ℤ)) → shortOf n rs ≡ false → length (flat n rs) ≡ n
+fits-long n rs e = Fl.length-flat digits digit-laws n rs (ltb-false n (4 * length rs) e)
+
+-- no refusal: neither list is short
+neither : (c p s : Bool) → refusalOf c p s ≡ 0 → (p ≡ false) × (s ≡ false)
+neither c p s e = roomy c p s 0 (record { tiles = []; counts = record { columns = none; rows = none }; cursor = at (pos 0) (pos 0) }) e .1
+  where
+    none : TrackCounts
+    none = record { negative = 0; explicit = 0; positive = 0 }
+
+pub record Lengths (answers primary secondary a′ p′ s′ : List ℤ) : Type 0 where
+  pub answers-stay : length a′ ≡ length answers
+  pub primary-stays : length p′ ≡ length primary
+  pub secondary-stays : length s′ ≡ length secondary
+
+pub laying-long : {columns : Bool} {p s : Lines} {state : ℤ} {flags : ℕ} {m : Matrix} {i : ℕ} {answers primary secondary : List ℤ} {r : Laid} {a′ p′ s′ : List ℤ}
+    → Laying columns p s state flags m i answers primary secondary r a′ p′ s′ → Lengths answers primary secondary a′ p′ s′
+laying-long {columns} {p} {s} {state} {flags} {m} {i} {answers} {primary} {secondary} (inl q) =
+    let ps = onPrimary columns p s state flags m i answers primary secondary in
+    let ss = onSecondary columns p s state flags m i answers primary secondary in
+    let v = neither columns (shortOf (length primary) ps) (shortOf (length secondary) ss) (q .room) in
+    record {
+      answers-stay = ap length (q .answered) ∙ length-sets answers (5 * i) (answerFive (laid (axisOf columns) (limited p) (limited s)) (markOf p s flags));
+      primary-stays = ap length (q .onto-primary) ∙ fits-long (length primary) ps (v .0);
+      secondary-stays = ap length (q .onto-secondary) ∙ fits-long (length secondary) ss (v .1)
+    }
+laying-long (inr q) = record { answers-stay = ap length (q .answered); primary-stays = ap length (q .onto-primary); secondary-stays = ap length (q .onto-secondary) }
+
+-- ---- an item that is another step's
+
+pub passed : {columns : Bool} {room : Both ℕ} {old : List ℤ} {b : Board} {m : Matrix} {answers primary secondary : List ℤ} (i : ℕ) → Ready columns room old b m answers primary secondary
+    → (u : Run) → u ≡ going b → AfterItem columns room old i u (On m) answers primary secondary
+passed {columns} {room} {old} {b} {m} {answers} {primary} {secondary} i k u e = subst (λ (v : Run). AfterItem columns room old i v (On m) answers primary secondary) (sym e) (m, (refl, k))
+
+pub sound-primary : {columns : Bool} {room : Both ℕ} {old : List ℤ} {b : Board} {m : Matrix} {answers primary secondary : List ℤ} → Ready columns room old b m answers primary secondary → Sound (m .primary)
+sound-primary {columns} k = rw (k .primary-counts) (sound-on columns (k .kept .counts))
+  where
+    sound-on : (c : Bool) {x : Both TrackCounts} → Each Sound x → Sound (on (axisOf c) x)
+    sound-on true h = h .columns
+    sound-on false h = h .rows
+
+pub sound-secondary : {columns : Bool} {room : Both ℕ} {old : List ℤ} {b : Board} {m : Matrix} {answers primary secondary : List ℤ} → Ready columns room old b m answers primary secondary → Sound (m .secondary)
+sound-secondary {columns} k = rw (k .secondary-counts) (sound-off columns (k .kept .counts))
+  where
+    sound-off : (c : Bool) {x : Both TrackCounts} → Each Sound x → Sound (on (other (axisOf c)) x)
+    sound-off true h = h .rows
+    sound-off false h = h .columns
+
+-- the other axis by its flag
+pub other-axis : (c : Bool) → axisOf (not c) ≡ other (axisOf c)
+other-axis true = refl
+other-axis false = refl

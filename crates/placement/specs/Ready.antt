@@ -1,9 +1,9 @@
 -- How the program's lists and counts stand for a board of the walk, and what a step's item, or a whole step, leaves of them. These words join the code to
 -- the walk of document 01; what the door promises is said without them.
 use mathlib.Core.Path.{_≡_}
-use mathlib.Core.Bool.{Bool}
 use mathlib.Core.List.{List}
-use Prim.Native.Nat.{ℕ, _*_, _≤_}
+use mathlib.Core.Bool.{Bool, true}
+use Prim.Native.Nat.{ℕ, _*_, _≤_, _<_}
 use lib.IntN.{ℤ}
 use lib.ListN.{length}
 use Rattle.intervals.specs.OverInt.{flat}
@@ -12,10 +12,14 @@ use Rattle.walk.specs.Walk.{Board, Setting, Run, going, stopped, recordsOn}
 use Rattle.walk.specs.OnList.{written}
 use Rattle.walk.proofs.Cells.{Coloured}
 use Rattle.walk.proofs.WalkLaws.{Kept}
-use Rattle.request.specs.Items.{axisOf}
+use Rattle.walk.specs.declared.Placement.{Placement}
+use Rattle.walk.specs.Request.{itemOf, goodItem}
+use Rattle.request.specs.Items.{axisOf, itemAt}
 use Rattle.placement.specs.declared.Matrix.{Matrix}
 use Rattle.placement.specs.declared.Laid.{Laid}
 use Rattle.placement.specs.declared.Laid.the-variants.{On, Short}
+use Rattle.placement.specs.declared.Stepped.{Stepped}
+use Rattle.placement.specs.declared.Stepped.the-variants.{Done, Refused}
 
 -- a run's setting, with today's states
 abbrev pub settingFor : Bool → Bool → Both ℕ → Setting
@@ -46,3 +50,25 @@ module _ (columns : Bool) (room : Both ℕ) (old : List ℤ) where
   abbrev pub AfterItem : ℕ → Run → Laid → List ℤ → List ℤ → List ℤ → Type 0
   AfterItem i (going b) r answers primary secondary = (m : Matrix) × ((r ≡ On m) × Ready b m answers primary secondary)
   AfterItem i (stopped n j) r answers primary secondary = (r ≡ Short n) × ((j ≡ i) × Stopped answers primary secondary)
+
+-- the lists and counts stand for some board, over some answers
+abbrev pub Stands : Bool → Matrix → List ℤ → List ℤ → List ℤ → Type 0
+Stands columns m answers primary secondary =
+    (room : Both ℕ) × ((old : List ℤ) × ((b : Board) × Ready columns room old b m answers primary secondary))
+
+-- an item's placement in the primary axis, and in the secondary
+abbrev pub primaryOf : Bool → List ℤ → ℕ → Placement
+primaryOf columns items i = on (axisOf columns) (itemOf (itemAt items i))
+
+abbrev pub secondaryOf : Bool → List ℤ → ℕ → Placement
+secondaryOf columns items i = on (other (axisOf columns)) (itemOf (itemAt items i))
+
+-- every item keeps its rules
+pub record Items (items : List ℤ) (n : ℕ) : Type 0 where
+  pub long : 6 * n ≤ length items
+  pub good : (i : ℕ) → i < n → goodItem (itemAt items i) ≡ true
+
+-- after a step: the walk goes on with a board that the program's lists stand for, or has stopped with a list's number and an item's index
+abbrev pub AfterStep : Bool → Both ℕ → List ℤ → Run → Stepped → List ℤ → List ℤ → List ℤ → Type 0
+AfterStep columns room old (going b) r answers primary secondary = (m : Matrix) × ((r ≡ Done m) × Ready columns room old b m answers primary secondary)
+AfterStep columns room old (stopped n i) r answers primary secondary = (r ≡ Refused n i) × Stopped columns room old answers primary secondary

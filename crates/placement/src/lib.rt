@@ -2,6 +2,7 @@
 // and the secondary list; counts and how many records each list holds go by value beside them.
 use grid_track_counts::TrackCounts;
 
+pub mod definite;
 pub mod lay;
 
 // Beside the lists: the counts of each axis, and how many records each list holds.
@@ -16,4 +17,10 @@ pub struct Matrix {
 pub enum Laid {
     On(Matrix),
     Short(u8),
+}
+
+// What became of a step: the board as it is after it, or the number of the list that is too short and the item's index.
+pub enum Stepped {
+    Done(Matrix),
+    Refused(u8, usize),
 }

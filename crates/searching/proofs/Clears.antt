@@ -19,7 +19,7 @@ use Rattle.coordinates.specs.Line.{lines, lowest, highest}
 use Rattle.cell_occupancy.specs.Calls.{extentOf, collisionJump, occupiedJump}
 use Rattle.cell_occupancy.specs.declared.jumps.Jump.{Jump}
 use Rattle.cell_occupancy.specs.declared.jumps.Jump.the-variants as J
-use Rattle.cell_occupancy.proofs.ByIndex.{in-is}
+use Rattle.intervals.proofs.Lists.{in-is}
 use Rattle.cell_occupancy.proofs.Cells.{Has, here, there, sound, has-order, has-cell, between-is, Cell, empty, filled, cell}
 use Rattle.cell_occupancy.proofs.Collisions.{extent-last, extent-free, over-free, over-next}
 use Rattle.cell_occupancy.proofs.Promises.{none-if-clear, past-the-last}
