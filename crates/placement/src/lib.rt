@@ -4,6 +4,8 @@ use grid_track_counts::TrackCounts;
 
 pub mod definite;
 pub mod lay;
+pub mod rest;
+pub mod secondary;
 
 // Beside the lists: the counts of each axis, and how many records each list holds.
 pub struct Matrix {
