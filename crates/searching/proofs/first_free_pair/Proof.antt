@@ -6,7 +6,7 @@ use borrow.Author.Needs.{needs}
 use borrow.Author.Tests.{eqb-true}
 use Prim.Native.Nat.{ℕ}
 use lib.IntN.{ℤ, pos, negsuc, _+ℤ_, _-ℤ_}
-use lib.Signed.{_≤ℤ_, _<ℤ_}
+use lib.Signed.{_≤ℤ_}
 use mir.Syntax.{w16}
 use mir.Val.{SFits, toZ, ofZ}
 use mir.Facts.{toZ-ofZ}
@@ -20,13 +20,13 @@ use Rattle.searching.proofs.Turns.{pairFound, Along, pair-here, pair-on
 use Rattle.searching.proofs.first_free_pair.Statement.{statement}
 use Rattle.searching.proofs.first_free_pair.Tie as tie
 
--- a line from which a span ends inside 16 bits
-abbrev Low : ℤ → ℤ → Type 0
-Low z high = (negsuc 32767 ≤ℤ z) × (z ≤ℤ high)
+-- z is a 16-bit number, and small enough for a span to be added to it
+abbrev Small : ℤ → ℤ → Type 0
+Small z high = (negsuc 32767 ≤ℤ z) × (z ≤ℤ high)
 
 abbrev Inv-loop : tie.InvT-loop
 Inv-loop list used primary-span secondary-span grid-start grid-end n m last primary₀ secondary primary =
-    Low (toZ w16 primary) (pos 20000)
+    Small (toZ w16 primary) (pos 20000)
     × (pairFound (recs used list) primary-span secondary-span (toZ w16 grid-start) (toZ w16 grid-end) (toZ w16 primary₀) (toZ w16 secondary)
     ≡ pairFound (recs used list) primary-span secondary-span (toZ w16 grid-start) (toZ w16 grid-end) (toZ w16 primary) (toZ w16 secondary))
 
@@ -35,8 +35,8 @@ abbrev μ-loop : tie.MeasureT-loop
 
 abbrev Inv-search : tie.InvT-search
 Inv-search list used primary-span secondary-span grid-start grid-end n m last primary₀ secondary₀ primary secondary =
-    Low (toZ w16 primary) (pos 20000)
-    × Low (toZ w16 secondary) (pos 12001)
+    Small (toZ w16 primary) (pos 20000)
+    × Small (toZ w16 secondary) (pos 12001)
     × (pairFound (recs used list) primary-span secondary-span (toZ w16 grid-start) (toZ w16 grid-end) (toZ w16 primary₀) (toZ w16 secondary₀)
     ≡ pairFound (recs used list) primary-span secondary-span (toZ w16 grid-start) (toZ w16 grid-end) (toZ w16 primary) (toZ w16 secondary))
 
