@@ -2,7 +2,6 @@
 ghost use mathlib.Core.Path.{_≡_};
 ghost use Rattle.cell_occupancy.specs.Calls.{recordsOfTrack};
 ghost use Rattle.hoarbale.specs.Lists.{checkedOf, jumpAnswer, collisionAnswer, occupiedAnswer};
-
 use cell_occupancy::jumps::Jump;
 use cell_occupancy::rules::Used;
 
@@ -46,7 +45,13 @@ fn answer(jump: Jump) -> JumpAnswer
 }
 
 // Where a search that meets what stands in the area's way can go on.
-pub fn collision_jump(list: &[i16], track_start: i16, track_end: i16, start: i16, end: i16) -> JumpAnswer
+pub fn collision_jump(
+    list: &[i16],
+    track_start: i16,
+    track_end: i16,
+    start: i16,
+    end: i16,
+) -> JumpAnswer
     ensures { λ r. ⌜ r ≡ collisionAnswer (now (list .entry)) «track_start» «track_end» start end ⌝ }
 {
     let checked = checked_list(list);
@@ -80,7 +85,12 @@ pub fn occupied_track_jump(list: &[i16], track_start: i16, track_end: i16) -> Ju
         Checked::Refused(number) => JumpAnswer::Refused(number),
         Checked::Records(used) => {
             if track_start < track_end {
-                return answer(cell_occupancy::jumps::occupied_track_jump(list, used, track_start, track_end));
+                return answer(cell_occupancy::jumps::occupied_track_jump(
+                    list,
+                    used,
+                    track_start,
+                    track_end,
+                ));
             }
             JumpAnswer::Refused(10)
         }

@@ -5,7 +5,7 @@ use mathlib.Core.Bool.{Bool, true, false, cond}
 use mathlib.Core.List.{List, [], _∷_, _++_, append-assoc}
 use Prim.Native.Nat.{ℕ, zero, suc, _+_, _*_, _≤_, _<_}
 use native.Mathlib.Omega.{arith}
-use borrow.Author.Tests.{eqb-true, eqb-false, ltb-false}
+use borrow.Author.Tests.{eq-eqb, eqb-true, eqb-false, ltb-false}
 use lib.Dec.{eqb, ltb}
 use lib.IntN.{ℤ, pos}
 use lib.ListN.{length, getD, set, drop}
@@ -14,6 +14,7 @@ use Rattle.walk.specs.Walk.{Tile, Board, Choice, tileOf, laidOn}
 use Rattle.walk.specs.Request.{numbers, answerOf, answersOf, upTo}
 use Rattle.walk.specs.OnList.{written}
 use Rattle.walk.proofs.Tests.{Every, nil, more}
+use Rattle.walk.proofs.Origins.{Before, last, earlier}
 use Rattle.walk.proofs.Placed.{Has, this, that}
 
 -- one item more writes its five numbers
@@ -80,7 +81,7 @@ five-other l i j t n =
 five-written : (i : ℕ) {ts : List Tile} (old : List ℤ) → Has i ts → 5 * i + 5 ≤ length old → fiveAt (written ts old) (5 * i) ≡ answerOf i ts
 unfolding written answerOf numbers
 five-written i {ts} old (this {t} {ts = us} e) h =
-    rw (e, borrow.Author.Tests.eq-eqb i i refl) (five-same (written us old) (5 * i) t (rw (written-length us old) h))
+    rw (e, eq-eqb i i refl) (five-same (written us old) (5 * i) t (rw (written-length us old) h))
 five-written i {ts} old (that {t} {ts = us} k) h = go (five-written i old k h) (eqb (t .index) i) refl
   where
     go : fiveAt (written us old) (5 * i) ≡ answerOf i us → (x : Bool) → eqb (t .index) i ≡ x → fiveAt (sets (written us old) (5 * t .index) (numbers t)) (5 * i) ≡ cond x (numbers t) (answerOf i us)
@@ -126,3 +127,21 @@ written-is n ts old h g r =
     let e : 0 + n ≡ n = omega arith in
     let c = rw e at (answers-cut n 0 ts old (λ i a b. h i (omega arith)) (omega arith)) in
     c ∙ rw (written-drop n old g)
+
+-- ---- an item's answer is its tile's
+
+pub record AnswerOf (i : ℕ) (us : List Tile) : Type 0 where
+  pub tile : Tile
+  pub earlier-tiles : List Tile
+  pub laid : Before tile earlier-tiles us
+  pub index : tile .index ≡ i
+  pub is : answerOf i us ≡ numbers tile
+
+pub answer-of : (i : ℕ) {us : List Tile} → Has i us → AnswerOf i us
+unfolding answerOf
+answer-of i (this {t} {ts} e) = record { tile = t; earlier-tiles = ts; laid = last; index = e; is = rw (eq-eqb (t .index) i e) }
+answer-of i (that {t} {ts} k) = go (eqb (t .index) i) refl (answer-of i k)
+  where
+    go : (x : Bool) → eqb (t .index) i ≡ x → AnswerOf i ts → AnswerOf i (t ∷ ts)
+    go true e a = record { tile = t; earlier-tiles = ts; laid = last; index = eqb-true (t .index) i e; is = rw e }
+    go false e a = record { tile = a .tile; earlier-tiles = a .earlier-tiles; laid = earlier (a .laid); index = a .index; is = rw e (a .is) }

@@ -3,14 +3,19 @@ use mathlib.Core.Path.{_≡_, refl, sym, _∙_}
 use mathlib.Core.Bool.{Bool, true, false, not, cond, _&&_}
 use mathlib.Core.List.{List, [], _∷_, map}
 use mathlib.Core.Logic.{_↔_}
-use Prim.Native.Nat.{ℕ}
-use lib.IntN.{ℤ}
+use Prim.Native.Nat.{ℕ, _*_, _≤_}
+use lib.IntN.{ℤ, pos, negsuc}
+use lib.ListN.{length}
 use lib.Signed.{ltZ, _≤ℤ_, _<ℤ_}
-use Rattle.signed.proofs.Laws.{signed, by-test, g-lt-true, g-lt-false}
+use Rattle.signed.proofs.Laws.{signed, by-test, g-lt-true, g-lt-false, g-le-true}
 use Rattle.intervals.specs.Records.{Area, between}
-use Rattle.intervals.specs.OverInt.{stateAt, cellOf, keeps, fits, ok}
-use Rattle.intervals.proofs.OverInt.{painted-cell, painted-keeps}
+use Rattle.intervals.specs.OverInt.{stateAt, cellOf, keeps, fits, ok, flat}
+use Rattle.intervals.specs.Lists.{allIn, rules, goodAreas, Holds}
+use Rattle.intervals.proofs.OverInt.{painted-cell}
+use Rattle.intervals.proofs.Limits.{painted-rules, good-fits}
+use Rattle.intervals.proofs.Lists.{flat-holds}
 use Rattle.coordinates.specs.declared.Lines.{Lines}
+use Rattle.coordinates.specs.Line.{Limited}
 use Rattle.walk.specs.Axis.{Axis, col, row, other, on, meets, Extent, overlap}
 use Rattle.walk.specs.Walk.{Tile, free, areaOn, recordsOn}
 use Rattle.walk.proofs.Tests.{clash, and-true, and-swap, not-true, Every, nil, more}
@@ -136,16 +141,38 @@ cells-free x (t ∷ ts) a (more g gs) (more k ks) s h = rw (apart (overlap (t .a
 
 -- ---- the lists: they keep the rules, and their cells are those of the history
 
+-- each tile is an area that may be painted
+pub history-good : (x : Axis) {ts : List Tile} → Tiled ts → Coloured ts → goodAreas (history x ts) ≡ true
+history-good x nil nil = refl
+history-good x (more {x = t} g gs) (more k ks) =
+    let l = on x (t .area) in
+    let m = on (other x) (t .area) in
+    let a : Limited l = in-grid-on x (t .area) g in
+    let b : Limited m = in-grid-on (other x) (t .area) g in
+    rw (
+      g-lt-true (l .start) (l .end) (omega signed),
+      g-lt-true (m .start) (m .end) (omega signed),
+      k,
+      g-le-true (negsuc 9999) (l .start) (omega signed),
+      g-le-true (l .end) (pos 10000) (omega signed),
+      g-le-true (negsuc 9999) (m .start) (omega signed),
+      g-le-true (m .end) (pos 10000) (omega signed),
+    )
+    (history-good x gs ks)
+
 pub history-fits : (x : Axis) {ts : List Tile} → Tiled ts → Coloured ts → fits (history x ts) ≡ true
-history-fits x nil nil = refl
-history-fits x (more {x = t} g gs) (more k ks) =
-    let a = in-grid-on x (t .area) g .order in
-    let b = in-grid-on (other x) (t .area) g .order in
-    rw (g-lt-true (on x (t .area) .start) (on x (t .area) .end) (omega signed), g-lt-true (on (other x) (t .area) .start) (on (other x) (t .area) .end) (omega signed), k) (history-fits x gs ks)
+history-fits x {ts} g k = good-fits (history x ts) (history-good x g k)
+
+pub records-rules : (x : Axis) (ts : List Tile) → Tiled ts → Coloured ts → rules (recordsOn x ts) ≡ true
+unfolding recordsOn
+records-rules x ts g k = painted-rules (history x ts) (history-good x g k)
 
 pub records-keep : (x : Axis) (ts : List Tile) → Tiled ts → Coloured ts → keeps (recordsOn x ts) ≡ true
-unfolding recordsOn
-records-keep x ts g k = painted-keeps (history x ts) (history-fits x g k)
+records-keep x ts g k = and-true (keeps (recordsOn x ts)) (allIn (recordsOn x ts)) (records-rules x ts g k) .0
+
+-- a list of n numbers holds them, where there is room
+pub records-hold : (x : Axis) (n : ℕ) (ts : List Tile) → Tiled ts → Coloured ts → 4 * length (recordsOn x ts) ≤ n → Holds (flat n (recordsOn x ts)) (length (recordsOn x ts))
+records-hold x n ts g k h = flat-holds n (recordsOn x ts) (records-rules x ts g k) h
 
 pub records-cell : (x : Axis) (ts : List Tile) → Tiled ts → Coloured ts → (u p : ℤ) → cellOf (recordsOn x ts) u p ≡ stateAt (history x ts) u p
 unfolding recordsOn

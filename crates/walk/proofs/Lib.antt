@@ -7,12 +7,12 @@ pub mod Range
 pub mod Cells
 pub mod Checks
 pub mod Placed
-pub mod Answers
 pub mod OnLists
 pub mod Loops
 pub mod Ends
 pub mod Ruled
 pub mod Origins
+pub mod Answers
 pub mod Promises
 pub mod Boards
 mod Limits

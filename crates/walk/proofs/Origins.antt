@@ -1,5 +1,5 @@
 -- Where each tile of a board comes from: an item, and the board as it stood before it, on which the tile keeps its step's rule. And what its mark says.
-use mathlib.Core.Path.{_≡_, refl, ap, _∙_, subst}
+use mathlib.Core.Path.{_≡_, refl, sym, ap, _∙_, subst}
 use mathlib.Core.Bool.{Bool, true, false}
 use mathlib.Core.List.{List, [], _∷_}
 use Prim.Native.Nat.{ℕ, _+_, _/_, _%_}
@@ -165,3 +165,12 @@ fixed-takes {w} {once} o c d e =
     go : (a : Axis) → w .axis ≡ a → Settled w once (o .before) (on a (record { columns = Fixed c; rows = Fixed d })) (on (other a) (record { columns = Fixed c; rows = Fixed d })) (o .choice) → o .choice .area ≡ record { columns = c; rows = d }
     go col i k = settled-fixed k ∙ rw i
     go row i k = settled-fixed k ∙ rw i
+
+-- "Mark: the sum of 1 pressed (limiting changed a line), 2 both axes fixed, 4 overwide"
+pub origin-mark : {w : Setting} {once : Place} {c₀ : Both TrackCounts} {qs : List Queued} {x : Tile} {ts : List Tile} (o : Origin w once c₀ qs x ts)
+    → x .mark ≡ bit 1 (pressedArea (o .choice .area)) + (bit 2 (mine1 (on (w .axis) (o .item .item)) (on (other (w .axis)) (o .item .item))) + bit 4 (wide w (o .before) (on (w .axis) (o .item .item)) (on (other (w .axis)) (o .item .item))))
+origin-mark o = ap (λ (y : Tile). y .mark) (o .tile) ∙ mark-is (o .item .index) (o .choice) (o .settled)
+
+pub origin-index : {w : Setting} {once : Place} {c₀ : Both TrackCounts} {qs : List Queued} {x : Tile} {ts : List Tile} (o : Origin w once c₀ qs x ts) → o .item .index ≡ x .index
+unfolding tileOf
+origin-index o = sym (ap (λ (y : Tile). y .index) (o .tile))

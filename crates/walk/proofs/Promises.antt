@@ -14,6 +14,7 @@ use lib.ListN.{length, drop, replicate, getD, length-map}
 use Rattle.signed.proofs.Laws.{signed, by-test}
 use Rattle.intervals.specs.Records.{Rec}
 use Rattle.intervals.specs.OverInt.{stateAt, cellOf, keeps, ok, flat, digits}
+use Rattle.intervals.specs.Lists.{rules, Holds}
 use Rattle.intervals.proofs.Flat as Fl
 use Rattle.intervals.proofs.OverInt.{digit-laws, is-painted}
 use Rattle.grid_track_counts.specs.declared.TrackCounts.{TrackCounts}
@@ -22,7 +23,7 @@ use Rattle.walk.specs.declared.Placement.the-variants.{Spanned}
 use Rattle.walk.specs.Axis.{Axis, col, row, other, Both, on, Extent}
 use Rattle.walk.specs.Search.{Place}
 use Rattle.walk.specs.Walk.{Queued, Tile, Board, Setting, Run, going, stopped, free, tileOf, laidOn, recordsOn, step4, each, begin4, walk}
-use Rattle.walk.specs.Request.{Request, Refusal, Outcome, refused, answered, answerNumbers, checked, halves, itemOf, itemCount, settingOf, upTo, queue, itemsOf, queueOf, startOf, growthOf, runOf, answersOf, told, outcome, answersLeft, rowsLeft, columnsLeft}
+use Rattle.walk.specs.Request.{Request, Refusal, Outcome, refused, answered, answerNumbers, checked, halves, itemOf, itemCount, settingOf, upTo, queue, itemsOf, queueOf, startOf, growthOf, runOf, numbers, answerOf, answersOf, told, outcome, answersLeft, rowsLeft, columnsLeft}
 use Rattle.walk.specs.Rules.{Walked, Full}
 use Rattle.walk.specs.OnList.{written}
 use Rattle.walk.proofs.Tests.{Every, nil, more, Mem}
@@ -30,12 +31,12 @@ use Rattle.walk.proofs.LinesLaws.{each-on, GrowsBoth, CoversArea, start
 use Rattle.walk.proofs.FreeLaws.{Tiled}
 use Rattle.walk.proofs.WalkLaws.{Kept, Clear, no-growth, walk-kept, Least, least-none, counts-least, grows-same, WithStates, states-kept, Roomy, walk-roomy, walk-keeps}
 use Rattle.walk.proofs.Range.{Run4, run4}
-use Rattle.walk.proofs.Cells.{history, Coloured, Cell, Solid, history-fits, records-keep, records-cell, free-cells, free-list}
+use Rattle.walk.proofs.Cells.{history, Coloured, Cell, Solid, history-fits, records-rules, records-hold, records-cell, free-cells, free-list}
 use Rattle.walk.proofs.Checks.{checked-none, checked-low, good-items, good-queue, halves-length}
 use Rattle.walk.proofs.Placed.{Has, walk-has, walk-count, queue-length, queue-all, queue-below, queue-item}
-use Rattle.walk.proofs.Answers.{written-is}
+use Rattle.walk.proofs.Answers.{written-is, answer-of}
 use Rattle.walk.proofs.Ruled.{walk-ruled, walk-only, walked-full, full-walked, full-number}
-use Rattle.walk.proofs.Origins.{Origin, Origins, origin-of, walk-origins, Before, clear-of}
+use Rattle.walk.proofs.Origins.{Origin, Origins, origin-of, origin-index, walk-origins, Before, clear-of}
 
 items-length : (r : Request) → length (itemsOf r) ≡ itemCount r
 items-length r = length-map (halves (r .items)) itemOf ∙ halves-length (r .items)
@@ -147,7 +148,7 @@ module _ (r : Request) (passed : checked r ≡ none) (b : Board) (run : runOf r 
   unmarked-cells x ts m z a u q c = free-cells a ts (x .area) (clear-of unmarked-clear m z) u q c
 
   -- every tile comes from an item of the request, by its step's rule on the board as it stood before it, with the least counts for the tiles laid by then
-  -- (`fixed-takes`, `mark-is` and `mark-bits` of Origins: "Items fixed in both axes take their lines"; "Mark: the sum of 1 pressed, 2 both axes fixed, 4 overwide")
+  -- (`fixed-takes`, `origin-mark` and `mark-bits` of Origins: "Items fixed in both axes take their lines"; "Mark: the sum of 1 pressed, 2 both axes fixed, 4 overwide")
   pub origins : (once : Place) × Origins (settingOf r) once (r .counts) (queueOf r) (b .tiles)
   origins = walk-origins (settingOf r) (queueOf r) (startOf r) b refl (start-kept r passed) e
 
@@ -180,9 +181,9 @@ module _ (r : Request) (passed : checked r ≡ none) (b : Board) (run : runOf r 
       go true i = rw (h .first (eqb-true (t .step) 1 i))
       go false i = rw (h .others (eqb-false (t .step) 1 i))
 
-  -- the lists keep the list rules, and a cell has the state of the last tile painted over it
-  pub lists-keep : (x : Axis) → keeps (recordsOn x (b .tiles)) ≡ true
-  lists-keep x = records-keep x (b .tiles) tiles-in-grid (coloured states)
+  -- the records keep the list rules, and a cell has the state of the last tile painted over it
+  pub lists-rules : (x : Axis) → rules (recordsOn x (b .tiles)) ≡ true
+  lists-rules x = records-rules x (b .tiles) tiles-in-grid (coloured states)
 
   pub lists-cells : (x : Axis) (u q : ℤ) → cellOf (recordsOn x (b .tiles)) u q ≡ stateAt (history x (b .tiles)) u q
   lists-cells x u q = records-cell x (b .tiles) tiles-in-grid (coloured states) u q
@@ -200,6 +201,15 @@ module _ (r : Request) (passed : checked r ≡ none) (b : Board) (run : runOf r 
   pub roomy : Roomy (settingOf r) b
   unfolding recordsOn
   roomy = walk-roomy (settingOf r) (growthOf r) (queueOf r) (startOf r) b (record { rows = omega arith; columns = omega arith }) e
+
+  -- and so do the row list and the column list that come back: those records, then zeros
+  pub rows-hold : Holds (flat (r .lists .rows) (recordsOn row (b .tiles))) (length (recordsOn row (b .tiles)))
+  unfolding settingOf
+  rows-hold = records-hold row (r .lists .rows) (b .tiles) tiles-in-grid (coloured states) (roomy .rows)
+
+  pub columns-hold : Holds (flat (r .lists .columns) (recordsOn col (b .tiles))) (length (recordsOn col (b .tiles)))
+  unfolding settingOf
+  columns-hold = records-hold col (r .lists .columns) (b .tiles) tiles-in-grid (coloured states) (roomy .columns)
 
   pub rows-length : length (flat (r .lists .rows) (recordsOn row (b .tiles))) ≡ r .lists .rows
   unfolding settingOf
@@ -227,6 +237,29 @@ module _ (r : Request) (passed : checked r ≡ none) (b : Board) (run : runOf r 
       let n = items-length r in
       let q = queue-length (length (itemsOf r)) 0 (itemsOf r) in
       omega (arith, walk-count (settingOf r) (growthOf r) (queueOf r) (startOf r) b e)
+
+  -- "five numbers an item": item i's answer is that of a tile which comes from item i of the request
+  pub record Answer (i : ℕ) : Type 0 where
+    pub tile : Tile
+    pub earlier-tiles : List Tile
+    pub laid : Before tile earlier-tiles (b .tiles)
+    pub is : answerOf i (b .tiles) ≡ numbers tile
+    pub from : Origin (settingOf r) (origins .0) (r .counts) (queueOf r) tile earlier-tiles
+    pub item : from .item .item ≡ getD (itemsOf r) i (record { columns = Spanned 1; rows = Spanned 1 })
+
+  pub answers : (i : ℕ) → i < itemCount r → Answer i
+  answers i h =
+      let a = answer-of i (all-placed i h) in
+      let o = origin (a .tile) (a .earlier-tiles) (a .laid) in
+      let j : o .item .index ≡ i = origin-index o ∙ a .index in
+      record {
+        tile = a .tile;
+        earlier-tiles = a .earlier-tiles;
+        laid = a .laid;
+        is = a .is;
+        from = o;
+        item = queued-item r (o .item) (o .queued) ∙ ap (λ (n : ℕ). getD (itemsOf r) n (record { columns = Spanned 1; rows = Spanned 1 })) j;
+      }
 
   -- for code: the answer buffer, written item by item, is in the end what the outcome says
   pub answers-written : (old : List ℤ) → length old ≡ r .answers → written (b .tiles) old ≡ answersLeft r old (outcome r)

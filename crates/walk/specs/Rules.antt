@@ -68,7 +68,7 @@ pub data Rule4 (w : Setting) (once : Place) (t : Board) : Placement → Placemen
   -- "Fixed primary: .. First free secondary line upward."
   finds-line : {p : Lines} {m : ℕ} {z : ℤ} → FirstLine (freeAcross w t p m) (start4 w (p .start) t) z
       → Rule4 w once t (Fixed p) (Spanned m) (record { area = laid (w .axis) p (from z m); step = 4; state = w .autoState; flags = 0; cursor = moved w once p (from z m) })
-  -- "Neither fixed: .. First free pair." c: the primary axis' counts
+  -- "Neither fixed: .. First free pair."
   finds-pair : {n m : ℕ} {y x : ℤ} → overwide n (on (w .axis) (t .counts)) ≡ false
       → FirstPair n (gridEnd (on (w .axis) (t .counts))) (gridStart (on (w .axis) (t .counts))) (freePair w t n m) (t .cursor .primary) (t .cursor .secondary) (record { primary = y; secondary = x })
       → Rule4 w once t (Spanned n) (Spanned m) (record { area = laid (w .axis) (from y n) (from x m); step = 4; state = w .autoState; flags = 0; cursor = moved w once (from y n) (from x m) })

@@ -1,0 +1,5 @@
+pub mod Lays
+pub mod Laying
+pub mod Step1
+pub mod Step2
+pub mod Step4

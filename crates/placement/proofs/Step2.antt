@@ -1,0 +1,1 @@
+-- Step 2 on the lists.

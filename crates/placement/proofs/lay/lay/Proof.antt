@@ -1,0 +1,243 @@
+-- `lay` meets its contract: what it calls speaks of the limited lines, which are those of the contract; no refusal is room on both lists.
+use borrow.Author.Needs.{needs}
+use borrow.Author.Tests.{ltb-false}
+use mathlib.Core.Path.{_≡_, refl, sym, ap, subst, _∙_}
+use mathlib.Core.Logic.{inl, inr}
+use mathlib.Core.Bool.{Bool, false, _||_}
+use mathlib.Core.List.{List}
+use Prim.Native.Nat.{ℕ, _+_, _*_, _≤_, _<_}
+use native.Mathlib.Omega.{arith}
+use lib.Dec.{ltb}
+use lib.IntN.{ℤ, pos}
+use lib.ListN.{length}
+use lib.Seq.{sets}
+use lib.Signed.{_≤ℤ_}
+use mir.Syntax.{w16}
+use mir.Val.{toZ, ofZ}
+use mir.Facts.{toZ-ofZ}
+use Rattle.intervals.specs.Records.{Rec}
+use Rattle.intervals.specs.OverInt.{flat}
+use Rattle.intervals.specs.Lists.{recs}
+use Rattle.coordinates.specs.declared.Lines.{Lines}
+use Rattle.coordinates.specs.Line.{limited, pressed, Limited}
+use Rattle.coordinates.proofs.Promises.{limited-meets}
+use Rattle.grid_track_counts.specs.Counts.{grown}
+use Rattle.walk.specs.Axis.{laid}
+use Rattle.walk.specs.Walk.{bit}
+use Rattle.request.specs.Items.{axisOf}
+use Rattle.placement.specs.declared.Laid.the-variants.{On}
+use Rattle.placement.specs.Laying.{onPrimary, onSecondary, refusal, refusalOf, markOf, shortOf, answerFive}
+use Rattle.placement.proofs.Laying.{same-paint, neither, small-mark}
+use Rattle.placement.proofs.lay.lay.Statement.{statement}
+use Rattle.placement.proofs.lay.lay.Tie as tie
+
+into-limited-grid-requires : tie.Need-into-limited-grid-requires
+into-limited-grid-requires c κs = search needs
+
+into-limited-grid-requires-2 : tie.Need-into-limited-grid-requires-2
+into-limited-grid-requires-2 c κs = search needs
+
+mark-of-requires : tie.Need-mark-of-requires
+mark-of-requires c κs = search needs
+
+-- once both lines are limited
+module _ (c : tie.After-into-limited-grid2) where
+  abbrev start : tie.Start
+  start = c .before .before
+
+  abbrev pl : Lines
+  pl = c .before .into-limited-grid .result .lines
+
+  abbrev sl : Lines
+  sl = c .into-limited-grid2 .result .lines
+
+  p-is : pl ≡ limited (start .args .p)
+  p-is = c .before .into-limited-grid .ensures .0
+
+  s-is : sl ≡ limited (start .args .s)
+  s-is = c .into-limited-grid2 .ensures .0
+
+  p-limited : Limited pl
+  p-limited = subst Limited (sym p-is) (limited-meets (start .args .p))
+
+  s-limited : Limited sl
+  s-limited = subst Limited (sym s-is) (limited-meets (start .args .s))
+
+  -- the state is what is read back from its bits
+  state-is : toZ w16 (ofZ w16 (start .args .state)) ≡ start .args .state
+  state-is = toZ-ofZ (start .fits .state)
+
+  state-good : (pos 1 ≤ℤ toZ w16 (ofZ w16 (start .args .state))) × (toZ w16 (ofZ w16 (start .args .state)) ≤ℤ pos 2)
+  state-good = rw (state-is) (start .pre .1 .1 .0)
+
+records-with-requires : tie.Need-records-with-requires
+records-with-requires c κs =
+    let g = c .before .before .before .before in
+    (start g .pre .0 .0, ((p-limited g, s-limited g), state-good g))
+
+records-with-requires-2 : tie.Need-records-with-requires-2
+records-with-requires-2 c κs =
+    let g = c .before .before .before .before .before .before in
+    (start g .pre .0 .1, ((s-limited g, p-limited g), state-good g))
+
+is-short-requires : tie.Need-is-short-requires
+is-short-requires c κs = search needs
+
+is-short-requires-2 : tie.Need-is-short-requires-2
+is-short-requires-2 c κs = search needs
+
+refusal-of-requires : tie.Need-refusal-of-requires
+refusal-of-requires c κs = search needs
+
+-- once room is judged: how many records each list needs, and the refusal
+module _ (c : tie.After-refusal-of) where
+  abbrev counted : tie.After-records-with2
+  counted = c .before .before .before
+
+  abbrev marked : tie.After-mark-of
+  marked = counted .before .before .before .before
+
+  abbrev both : tie.After-into-limited-grid2
+  both = marked .before .before .before
+
+  abbrev begun : tie.Start
+  begun = start both
+
+  abbrev on-p : List (Rec ℤ)
+  on-p = onPrimary (begun .args .columns) (begun .args .p) (begun .args .s) (begun .args .state) (begun .args .flags) (begun .args .matrix) (begun .args .i) (begun .args .answers .now) (begun .args .primary .now) (begun .args .secondary .now)
+
+  abbrev on-s : List (Rec ℤ)
+  on-s = onSecondary (begun .args .columns) (begun .args .p) (begun .args .s) (begun .args .state) (begun .args .flags) (begun .args .matrix) (begun .args .i) (begun .args .answers .now) (begun .args .primary .now) (begun .args .secondary .now)
+
+  count-p : counted .before .before .records-with .result ≡ length on-p
+  count-p = counted .before .before .records-with .ensures ∙ ap length (same-paint (recs (begun .args .matrix .«primary_used») (begun .args .primary .now)) (p-is both) (s-is both) (state-is both))
+
+  count-s : counted .records-with2 .result ≡ length on-s
+  count-s = counted .records-with2 .ensures ∙ ap length (same-paint (recs (begun .args .matrix .«secondary_used») (begun .args .secondary .now)) (s-is both) (p-is both) (state-is both))
+
+  short-p : c .before .before .is-short .result ≡ shortOf (length (begun .args .primary .now)) on-p
+  short-p = c .before .before .is-short .ensures ∙ ap (λ (n : ℕ). ltb (length (begun .args .primary .now)) (4 * n)) count-p
+
+  short-s : c .before .is-short2 .result ≡ shortOf (length (begun .args .secondary .now)) on-s
+  short-s = c .before .is-short2 .ensures ∙ ap (λ (n : ℕ). ltb (length (begun .args .secondary .now)) (4 * n)) count-s
+
+  refused : c .refusal-of .result ≡ refusal (begun .args .columns) (begun .args .p) (begun .args .s) (begun .args .state) (begun .args .flags) (begun .args .matrix) (begun .args .i) (begun .args .answers .now) (begun .args .primary .now) (begun .args .secondary .now)
+  refused = c .refusal-of .ensures ∙ (λ j. refusalOf (begun .args .columns) (short-p j) (short-s j))
+
+  mark-is : marked .mark-of .result ≡ markOf (begun .args .p) (begun .args .s) (begun .args .flags)
+  mark-is = marked .mark-of .ensures ∙ (λ j. bit 1 (both .before .into-limited-grid .ensures .1 j || both .into-limited-grid2 .ensures .1 j) + begun .args .flags)
+
+same-length : tie.Need-same-length
+same-length c = search needs
+
+same-length-2 : tie.Need-same-length-2
+same-length-2 c = search needs
+
+returns : tie.Need-returns
+returns c =
+    inr (
+    record {
+      number = c .before .refusal-of .result;
+      room = sym (refused (c .before));
+      some = omega arith;
+      result = refl;
+      answered = refl;
+      onto-primary = refl;
+      onto-secondary = refl;
+    }
+    )
+
+-- no refusal: there is room on both lists
+module _ (c : tie.Else1) where
+  abbrev judged : tie.After-refusal-of
+  judged = c .before
+
+  none : (judged .before .before .is-short .result ≡ false) × (judged .before .is-short2 .result ≡ false)
+  none = neither (begun judged .args .columns) (judged .before .before .is-short .result) (judged .before .is-short2 .result) (sym (judged .refusal-of .ensures) ∙ c .if1 .left)
+
+  room-p : 4 * counted judged .before .before .records-with .result ≤ length (begun judged .args .primary .now)
+  room-p = ltb-false (length (begun judged .args .primary .now)) (4 * counted judged .before .before .records-with .result) (sym (judged .before .before .is-short .ensures) ∙ none .0)
+
+  room-s : 4 * counted judged .records-with2 .result ≤ length (begun judged .args .secondary .now)
+  room-s = ltb-false (length (begun judged .args .secondary .now)) (4 * counted judged .records-with2 .result) (sym (judged .before .is-short2 .ensures) ∙ none .1)
+
+paint-tile-requires : tie.Need-paint-tile-requires
+paint-tile-requires c κs =
+    let d = c .before .before in
+    let g = both d in
+    (start g .pre .0 .0, ((p-limited g, s-limited g), (state-good g, (counted d .before .before .records-with .ensures, room-p (c .before)))))
+
+paint-tile-requires-2 : tie.Need-paint-tile-requires-2
+paint-tile-requires-2 c κs =
+    let e = c .before .before .before .before in
+    let d = e .before in
+    let g = both d in
+    (start g .pre .0 .1, ((s-limited g, p-limited g), (state-good g, (counted d .records-with2 .ensures, room-s e))))
+
+put-answer-requires : tie.Need-put-answer-requires
+put-answer-requires c κs =
+    let d = c .before .before .before .before .before .before .before .before in
+    (begun d .pre .1 .1 .1 .1, subst (λ (n : ℕ). n < 32768) (sym (mark-is d)) (small-mark (pressed (begun d .args .p) || pressed (begun d .args .s)) (begun d .args .flags) (begun d .pre .1 .1 .1 .0 .1)))
+
+grown-requires : tie.Need-grown-requires
+grown-requires c κs =
+    let g = both (c .before .before .before .before .before .before .before .before .before .before .before .before) in
+    (start g .pre .1 .0 .0, p-limited g)
+
+grown-requires-2 : tie.Need-grown-requires-2
+grown-requires-2 c κs =
+    let g = both (c .before .before .before .before .before .before .before .before .before .before .before .before .before) in
+    (start g .pre .1 .0 .1, s-limited g)
+
+same-length-3 : tie.Need-same-length-3
+same-length-3 c = search needs
+
+same-length-4 : tie.Need-same-length-4
+same-length-4 c = search needs
+
+same-length-5 : tie.Need-same-length-5
+same-length-5 c = search needs
+
+returns-2 : tie.Need-returns-2
+returns-2 c =
+    let w = c .before .before .before .before .before in
+    let z = w .before .before .before in
+    let y = z .before .before .before in
+    let e = y .before .before in
+    let d = e .before in
+    let g = both d in
+    let a = begun d .args in
+    inl (
+    record {
+      room = sym (refused d) ∙ e .if1 .left;
+      result = λ j. On (record { primary = (c .before .grown .ensures ∙ ap (grown (a .matrix .primary)) (p-is g)) j; secondary = (c .grown2 .ensures ∙ ap (grown (a .matrix .secondary)) (s-is g)) j; «primary_used» = count-p d j; «secondary_used» = count-s d j });
+      answered = w .put-answer .ensures ∙ (λ j. sets (a .answers .now) (5 * a .i) (answerFive (laid (axisOf (a .columns)) (p-is g j) (s-is g j)) (mark-is d j)));
+      onto-primary = y .paint-tile .ensures ∙ ap (flat (length (a .primary .now))) (same-paint (recs (a .matrix .«primary_used») (a .primary .now)) (p-is g) (s-is g) (state-is g));
+      onto-secondary = z .paint-tile2 .ensures ∙ ap (flat (length (a .secondary .now))) (same-paint (recs (a .matrix .«secondary_used») (a .secondary .now)) (s-is g) (p-is g) (state-is g));
+    }
+    )
+
+pub lay-spec : {M : Type 1} → statement M
+lay-spec =
+    tie.close
+    (tie.spec
+    into-limited-grid-requires
+    into-limited-grid-requires-2
+    mark-of-requires
+    records-with-requires
+    records-with-requires-2
+    is-short-requires
+    is-short-requires-2
+    refusal-of-requires
+    same-length
+    same-length-2
+    returns
+    paint-tile-requires
+    paint-tile-requires-2
+    put-answer-requires
+    grown-requires
+    grown-requires-2
+    same-length-3
+    same-length-4
+    same-length-5
+    returns-2)

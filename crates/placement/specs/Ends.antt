@@ -1,0 +1,1 @@
+-- Step 2's recorded ends, read from the answers already written.

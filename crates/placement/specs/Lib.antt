@@ -1,0 +1,4 @@
+pub mod Laying
+pub mod Ready
+pub mod Ends
+pub mod Cursor

@@ -1,0 +1,3 @@
+pub mod Clears
+pub mod Turns
+pub mod OnBoard
