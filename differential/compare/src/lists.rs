@@ -46,16 +46,17 @@ impl std::fmt::Display for Series {
     }
 }
 
-/// How many calls of a series were compared, or what differs.
-fn judge(series: &Series, ours: Ours) -> Result<u64, String> {
-    let mut compared = 0;
+/// The numbers that the paints gave (0: painted), or what differs.
+fn judge(series: &Series, ours: Ours) -> Result<Vec<u8>, String> {
+    let mut given = Vec::new();
     let mut list = vec![0; 4 * series.places];
     let mut matrix = Matrix::new(series.counts[0], series.counts[1]);
     for call in &series.calls {
         let [a, b, c, d, e, f] = call.n;
         match call.kind {
             Kind::Paint => {
-                if paint(&mut list, (a, b), (c, d), e, ours)? == 0 {
+                given.push(paint(&mut list, (a, b), (c, d), e, ours)?);
+                if given.last() == Some(&0) {
                     let axis = if series.rows { Axis::Horizontal } else { Axis::Vertical };
                     caught("original", || matrix.mark_area_as(axis, (c, d), (a, b), e as u8))?;
                     corners(series.rows, &list, &matrix, (a, b), (c, d), ours)?;
@@ -70,19 +71,18 @@ fn judge(series: &Series, ours: Ours) -> Result<u64, String> {
                 if let Some(number) = damaged.get_mut(e as usize) {
                     *number = f;
                 }
-                every_call(&damaged, (a, b), (c, d), ours)?;
+                given.push(every_call(&damaged, (a, b), (c, d), ours)?);
             }
             Kind::Length => {
                 // A negative number stands for the shortest length that is too long.
                 let length = if e < 0 { plain::LONGEST_LIST + 4 } else { e as usize };
                 let mut other = list.clone();
                 other.resize(length, 0);
-                every_call(&other, (a, b), (c, d), ours)?;
+                given.push(every_call(&other, (a, b), (c, d), ours)?);
             }
         }
-        compared += 1;
     }
-    Ok(compared)
+    Ok(given)
 }
 
 fn same<T: PartialEq + std::fmt::Debug>(call: &str, plain: T, side: &str, other: Option<T>) -> Result<(), String> {
@@ -167,14 +167,14 @@ pub fn states(rows: bool, list: &[i16], matrix: &Matrix) -> Result<(), String> {
     Ok(())
 }
 
-fn every_call(list: &[i16], tracks: Span, lines: Span, ours: Ours) -> Result<(), String> {
+fn every_call(list: &[i16], tracks: Span, lines: Span, ours: Ours) -> Result<u8, String> {
     let plain = plain::collision_jump(list, tracks, lines);
     same("collision jump", plain, "ours", caught("ours", || ours.collision_jump(list, tracks, lines))?)?;
     let plain = plain::occupied_track_jump(list, tracks);
     same("occupied-track jump", plain, "ours", caught("ours", || ours.occupied_track_jump(list, tracks))?)?;
     records(list, 0, tracks.0, ours)?;
     records(list, 1, tracks.0, ours)?;
-    paint(&mut list.to_vec(), tracks, lines, 2, ours).map(|_| ())
+    paint(&mut list.to_vec(), tracks, lines, 2, ours)
 }
 
 /// Where a series' lines lie.
@@ -305,10 +305,10 @@ pub fn run(random: &mut Random, count: u64, ours: Ours) -> Tally {
     let mut tally = Tally::default();
     while tally.compared < count {
         let series = series(random);
+        tally.compared += series.calls.len() as u64;
         match judge(&series, ours) {
-            Ok(compared) => tally.compared += compared,
+            Ok(given) => given.iter().for_each(|&number| tally.given[number as usize] += 1),
             Err(_) => {
-                tally.compared += series.calls.len() as u64;
                 let small = if tally.shows() { shrink(series, ours) } else { series };
                 tally.differs(|| format!("{}: {small}", judge(&small, ours).unwrap_err()));
             }

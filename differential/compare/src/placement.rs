@@ -6,7 +6,7 @@ use crate::tally::{caught, Tally};
 use original::{Axis, Matrix};
 
 #[derive(Clone, Debug)]
-pub struct Request {
+struct Request {
     flow: u8,
     counts: [[u16; 3]; 2],
     items: Vec<i16>,
@@ -25,8 +25,8 @@ impl Buffers {
 
 type Answer = Result<[[u16; 3]; 2], (u8, u16)>;
 
-/// Nothing, or what differs.
-pub fn judge(request: &Request, ours: Ours) -> Result<(), String> {
+/// The number given (0: answered) and the marks, or what differs.
+fn judge(request: &Request, ours: Ours) -> Result<(u8, Vec<i16>), String> {
     let Request { flow, counts, ref items, lengths } = *request;
     let mut plain_left = Buffers::new(lengths);
     let [answers, rows, columns] = &mut plain_left.0;
@@ -54,7 +54,7 @@ pub fn judge(request: &Request, ours: Ours) -> Result<(), String> {
             (plain_left.0[0].chunks(5).take(items.len() / 6).map(|answer| answer[..4].to_vec()).collect(), grown)
         }
         Err((7 | 8, _)) => walked(request),
-        Err(_) => return Ok(()),
+        Err((number, _)) => return Ok((number, Vec::new())),
     };
     let good: Vec<[i16; 6]> = items.chunks(6).map(|item| item.try_into().expect("six numbers")).collect();
     let original = caught("original", || original::place(flow, counts[0], counts[1], &good))?;
@@ -67,8 +67,11 @@ pub fn judge(request: &Request, ours: Ours) -> Result<(), String> {
         return Err(format!("counts: plain {grown:?}, original {original_grown:?}"));
     }
     match plain {
-        Ok(_) => cells(&plain_left, &original.matrix),
-        Err(_) => Ok(()),
+        Ok(_) => {
+            cells(&plain_left, &original.matrix)?;
+            Ok((0, plain_left.0[0].chunks(5).take(good.len()).map(|answer| answer[4]).collect()))
+        }
+        Err((number, _)) => Ok((number, Vec::new())),
     }
 }
 
@@ -171,6 +174,7 @@ fn good(random: &mut Random, shape: &Shape) -> Request {
 /// Very many tiles that run past the end of the limited grid.
 fn many(random: &mut Random) -> Request {
     let flow = random.below(4) as u8;
+    let row_flow = flow == 0 || flow == 2;
     let explicit = random.within(0, 4) as u16;
     let along = random.within(0, 2);
     let longest = random.within(1, 12);
@@ -182,11 +186,11 @@ fn many(random: &mut Random) -> Request {
             _ => [1, random.within(1, 2) as i16, 0],
         };
         let secondary = [1, random.within(longest.min(5), longest) as i16, 0];
-        let item = if flow % 2 == 0 { [primary, secondary] } else { [secondary, primary] };
+        let item = if row_flow { [primary, secondary] } else { [secondary, primary] };
         items.extend(item.concat());
     }
     let (wide, none) = ([0, explicit, 0], [0; 3]);
-    let counts = if flow % 2 == 0 { [wide, none] } else { [none, wide] };
+    let counts = if row_flow { [wide, none] } else { [none, wide] };
     Request { flow, counts, items, lengths: [0; 3] }
 }
 
@@ -317,13 +321,21 @@ fn shrink(mut request: Request, ours: Ours) -> Request {
 /// Compares `count` requests.
 pub fn run(random: &mut Random, count: u64, ours: Ours) -> Tally {
     let mut tally = Tally::default();
+    let mut marks = [0; 8];
     while tally.compared < count {
         let request = request(random);
         tally.compared += 1;
-        if judge(&request, ours).is_err() {
-            let small = if tally.shows() { shrink(request, ours) } else { request };
-            tally.differs(|| format!("{}: {small:?}", judge(&small, ours).unwrap_err()));
+        match judge(&request, ours) {
+            Ok((number, given)) => {
+                tally.given[number as usize] += 1;
+                given.iter().for_each(|&mark| marks[mark as usize] += 1);
+            }
+            Err(_) => {
+                let small = if tally.shows() { shrink(request, ours) } else { request };
+                tally.differs(|| format!("{}: {small:?}", judge(&small, ours).unwrap_err()));
+            }
         }
     }
+    tally.note = format!(", items by mark {marks:?}");
     tally
 }
