@@ -1,7 +1,7 @@
 //! Series of calls on one list, beside the original's matrix and the plain reading.
 use crate::random::Random;
 use crate::sides::Ours;
-use crate::tally::{caught, Tally};
+use crate::tally::{caught, shrink, Tally};
 use original::{Axis, Matrix};
 
 type Span = (i16, i16);
@@ -68,7 +68,9 @@ fn judge(series: &Series, ours: Ours) -> Result<Vec<u8>, String> {
             Kind::Records => records(&list, a, b, ours)?,
             Kind::Damage => {
                 let mut damaged = list.clone();
-                if let Some(number) = damaged.get_mut(e as usize) {
+                // Counted round the used places and one more, where a changed number matters.
+                let used = list.chunks(4).filter(|record| record[3] != 0).count();
+                if let Some(number) = damaged.get_mut(e as usize % (4 * used + 4)) {
                     *number = f;
                 }
                 given.push(every_call(&damaged, (a, b), (c, d), ours)?);
@@ -225,10 +227,11 @@ fn call(random: &mut Random, tracks: Lie, lines: Lie, places: usize) -> Call {
         }
         55..=74 => (Kind::Jump, 0, 0),
         75..=84 => (Kind::TrackJump, 0, 0),
-        85..=91 => (Kind::Records, 0, 0),
-        92..=97 => {
+        85..=89 => (Kind::Records, 0, 0),
+        90..=97 => {
             let near = random.within(-2, 12);
-            let number = random.pick(&[near, near, near, -10001, -10000, 9999, 10000, 10001, 32767, -32768]);
+            let number =
+                random.pick(&[near, near, near, near, near, 1, 2, -10001, -10000, 9999, 10000, 10001, 32767, -32768]);
             (Kind::Damage, random.below(4 * places as u64 + 1) as i32, number)
         }
         _ if random.one_in(400) => (Kind::Length, -1, 0),
@@ -268,36 +271,31 @@ pub fn smaller(number: i16) -> impl Iterator<Item = i16> {
     [0, number / 2, number - number.signum()].into_iter().filter(move |&less| less != number)
 }
 
-/// Makes a differing series as small as single changes can.
-fn shrink(mut series: Series, ours: Ours) -> Series {
-    loop {
-        let mut tries: Vec<Series> = Vec::new();
-        for at in 0..series.calls.len() {
-            let mut less = series.clone();
-            less.calls.remove(at);
-            tries.push(less);
-        }
-        for at in 0..series.calls.len() {
-            for number in 0..6 {
-                for value in smaller(series.calls[at].n[number]) {
-                    let mut less = series.clone();
-                    less.calls[at].n[number] = value;
-                    tries.push(less);
-                }
+/// The series that single changes make of one.
+fn tries(series: &Series) -> Vec<Series> {
+    let mut tries: Vec<Series> = Vec::new();
+    for at in 0..series.calls.len() {
+        let mut less = series.clone();
+        less.calls.remove(at);
+        tries.push(less);
+    }
+    for at in 0..series.calls.len() {
+        for number in 0..6 {
+            for value in smaller(series.calls[at].n[number]) {
+                let mut less = series.clone();
+                less.calls[at].n[number] = value;
+                tries.push(less);
             }
         }
-        if series.places > 0 {
-            tries.push(Series { places: series.places / 2, ..series.clone() });
-            tries.push(Series { places: series.places - 1, ..series.clone() });
-        }
-        if series.counts != [[0; 3]; 2] {
-            tries.push(Series { counts: [[0; 3]; 2], ..series.clone() });
-        }
-        match tries.into_iter().find(|less| judge(less, ours).is_err()) {
-            Some(less) => series = less,
-            None => return series,
-        }
     }
+    if series.places > 0 {
+        tries.push(Series { places: series.places / 2, ..series.clone() });
+        tries.push(Series { places: series.places - 1, ..series.clone() });
+    }
+    if series.counts != [[0; 3]; 2] {
+        tries.push(Series { counts: [[0; 3]; 2], ..series.clone() });
+    }
+    tries
 }
 
 /// Compares at least `count` calls.
@@ -309,7 +307,8 @@ pub fn run(random: &mut Random, count: u64, ours: Ours) -> Tally {
         match judge(&series, ours) {
             Ok(given) => given.iter().for_each(|&number| tally.given[number as usize] += 1),
             Err(_) => {
-                let small = if tally.shows() { shrink(series, ours) } else { series };
+                let small =
+                    if tally.shows() { shrink(series, tries, |less| judge(less, ours).is_err()) } else { series };
                 tally.differs(|| format!("{}: {small}", judge(&small, ours).unwrap_err()));
             }
         }

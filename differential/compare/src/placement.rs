@@ -2,7 +2,7 @@
 use crate::lists::{smaller, states};
 use crate::random::Random;
 use crate::sides::Ours;
-use crate::tally::{caught, Tally};
+use crate::tally::{caught, shrink, Tally};
 use original::{Axis, Matrix};
 
 #[derive(Clone, Debug)]
@@ -271,51 +271,46 @@ fn request(random: &mut Random) -> Request {
     request
 }
 
-/// Makes a differing request as small as single changes can.
-fn shrink(mut request: Request, ours: Ours) -> Request {
-    loop {
-        let mut tries: Vec<Request> = Vec::new();
-        let mut with = |change: &dyn Fn(&mut Request)| {
-            let mut less = request.clone();
-            change(&mut less);
-            tries.push(less);
-        };
-        let count = request.items.len() / 6;
-        // Halves first: a request of very many items is made small in few steps.
-        for at in [0, count / 2] {
-            if count > 8 {
-                with(&|less| drop(less.items.drain(6 * at..6 * (at + count / 2))));
-            }
-        }
-        for at in 0..count.min(40) {
-            with(&|less| drop(less.items.drain(6 * at..6 * at + 6)));
-        }
-        for at in 0..request.items.len().min(60) {
-            for value in smaller(request.items[at]) {
-                with(&|less| less.items[at] = value);
-            }
-        }
-        for at in 0..6 {
-            for value in smaller(request.counts[at / 3][at % 3].min(32767) as i16) {
-                with(&|less| less.counts[at / 3][at % 3] = value as u16);
-            }
-        }
-        for at in 0..3 {
-            let length = request.lengths[at];
-            for value in [0, length / 2, length.saturating_sub(4), length.saturating_sub(1)] {
-                if value < length {
-                    with(&|less| less.lengths[at] = value);
-                }
-            }
-        }
-        if request.flow > 0 {
-            with(&|less| less.flow -= 1);
-        }
-        match tries.into_iter().find(|less| judge(less, ours).is_err()) {
-            Some(less) => request = less,
-            None => return request,
+/// The requests that single changes make of one.
+fn tries(request: &Request) -> Vec<Request> {
+    let mut tries: Vec<Request> = Vec::new();
+    let mut with = |change: &dyn Fn(&mut Request)| {
+        let mut less = request.clone();
+        change(&mut less);
+        tries.push(less);
+    };
+    let count = request.items.len() / 6;
+    // Halves first: a request of very many items is made small in few steps.
+    for at in [0, count / 2] {
+        if count > 8 {
+            with(&|less| drop(less.items.drain(6 * at..6 * (at + count / 2))));
         }
     }
+    for at in 0..count.min(40) {
+        with(&|less| drop(less.items.drain(6 * at..6 * at + 6)));
+    }
+    for at in 0..request.items.len().min(60) {
+        for value in smaller(request.items[at]) {
+            with(&|less| less.items[at] = value);
+        }
+    }
+    for at in 0..6 {
+        for value in smaller(request.counts[at / 3][at % 3].min(32767) as i16) {
+            with(&|less| less.counts[at / 3][at % 3] = value as u16);
+        }
+    }
+    for at in 0..3 {
+        let length = request.lengths[at];
+        for value in [0, length / 2, length.saturating_sub(4), length.saturating_sub(1)] {
+            if value < length {
+                with(&|less| less.lengths[at] = value);
+            }
+        }
+    }
+    if request.flow > 0 {
+        with(&|less| less.flow -= 1);
+    }
+    tries
 }
 
 /// Compares `count` requests.
@@ -331,7 +326,8 @@ pub fn run(random: &mut Random, count: u64, ours: Ours) -> Tally {
                 given.iter().for_each(|&mark| marks[mark as usize] += 1);
             }
             Err(_) => {
-                let small = if tally.shows() { shrink(request, ours) } else { request };
+                let small =
+                    if tally.shows() { shrink(request, tries, |less| judge(less, ours).is_err()) } else { request };
                 tally.differs(|| format!("{}: {small:?}", judge(&small, ours).unwrap_err()));
             }
         }

@@ -35,6 +35,24 @@ impl Tally {
     }
 }
 
+/// Makes a differing input smaller as long as a single change leaves a difference, for some seconds at most:
+/// inputs over the whole limited grid are slow to try.
+pub fn shrink<T>(mut input: T, tries: impl Fn(&T) -> Vec<T>, differs: impl Fn(&T) -> bool) -> T {
+    let begun = std::time::Instant::now();
+    'smaller: loop {
+        for less in tries(&input) {
+            if begun.elapsed().as_secs() >= 10 {
+                return input;
+            }
+            if differs(&less) {
+                input = less;
+                continue 'smaller;
+            }
+        }
+        return input;
+    }
+}
+
 /// What a side gives, or the words of its panic.
 pub fn caught<T>(side: &str, call: impl FnOnce() -> T) -> Result<T, String> {
     std::panic::catch_unwind(std::panic::AssertUnwindSafe(call)).map_err(|panic| {
