@@ -1,3 +1,4 @@
 pub mod LinePromises
 pub mod Checked
+pub mod Painting
 pub mod Cases
