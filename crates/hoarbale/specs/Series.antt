@@ -1,14 +1,14 @@
 -- Areas painted one after the other through the call on an empty list: the list that is left, and the areas that were accepted.
 use mathlib.Core.Path.{_≡_}
-use mathlib.Core.Bool.{true, cond, _&&_}
+use mathlib.Core.Bool.{true, false, cond, _&&_}
 use mathlib.Core.List.{List, [], _∷_}
-use Prim.Native.Nat.{ℕ}
+use Prim.Native.Nat.{ℕ, _*_, _≤_, _<_}
 use lib.ListN.{length, replicate}
 use lib.IntN.{ℤ, pos}
 use lib.Signed.{ltZ}
 use Rattle.intervals.specs.Records.{Area, area, between}
-use Rattle.intervals.specs.OverInt.{cellOf, decode}
-use Rattle.intervals.specs.Lists.{kept}
+use Rattle.intervals.specs.OverInt.{cellOf, decode, paintList}
+use Rattle.intervals.specs.Lists.{kept, goodLength, goodArea}
 use Rattle.hoarbale.specs.Lists.{paintAnswer, paintLeft}
 use Rattle.hoarbale.specs.declared.lists.PaintAnswer.{PaintAnswer}
 use Rattle.hoarbale.specs.declared.lists.PaintAnswer.the-variants as P
@@ -45,3 +45,11 @@ pub record Fits (l : List ℤ) (x : Area ℤ) : Type 0 where
   pub long : length list ≡ length l
   pub keep : kept list ≡ true
   pub cells : (t p : ℤ) → cellOf (decode list) t p ≡ overCell x t p (cellOf (decode l) t p)
+
+-- "Given exactly when": why a paint of the area x on the list l has an answer
+pub data Why (l : List ℤ) (x : Area ℤ) : PaintAnswer → Type 0 where
+  length-wrong : goodLength l ≡ false → Why l x (P.Refused 5)
+  rules-broken : goodLength l ≡ true → kept l ≡ false → Why l x (P.Refused 9)
+  area-bad : goodLength l ≡ true → kept l ≡ true → goodArea x ≡ false → Why l x (P.Refused 10)
+  no-room : goodLength l ≡ true → kept l ≡ true → goodArea x ≡ true → length l < 4 * length (paintList x (decode l)) → Why l x (P.Refused 7)
+  is-room : goodLength l ≡ true → kept l ≡ true → goodArea x ≡ true → 4 * length (paintList x (decode l)) ≤ length l → Why l x P.Painted

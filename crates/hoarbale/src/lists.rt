@@ -4,7 +4,6 @@ ghost use Rattle.cell_occupancy.specs.Calls.{recordsOfTrack};
 ghost use Rattle.intervals.specs.Lists.{goodArea};
 ghost use Rattle.cell_painting.specs.Painting.{areaOf};
 ghost use Rattle.hoarbale.specs.Lists.{checkedOf, paintAnswer, paintLeft, jumpAnswer, collisionAnswer, occupiedAnswer};
-
 use cell_occupancy::jumps::Jump;
 use cell_occupancy::rules::Used;
 use cell_painting::Painted;
@@ -74,7 +73,14 @@ fn good_area(track_start: i16, track_end: i16, start: i16, end: i16, state: i16)
 }
 
 // Paints one area: the tracks track_start..track_end and the lines start..end. A refused area leaves the list as it was.
-pub fn paint(list: &mut [i16], track_start: i16, track_end: i16, start: i16, end: i16, state: i16) -> PaintAnswer
+pub fn paint(
+    list: &mut [i16],
+    track_start: i16,
+    track_end: i16,
+    start: i16,
+    end: i16,
+    state: i16,
+) -> PaintAnswer
     ensures { λ r. ⌜ r ≡ paintAnswer (now (list .entry)) (areaOf «track_start» «track_end» start end state) ⌝ }
     ensures { λ _. ⌜ now (list .exit) ≡ paintLeft (now (list .entry)) (areaOf «track_start» «track_end» start end state) ⌝ }
 {
@@ -83,7 +89,15 @@ pub fn paint(list: &mut [i16], track_start: i16, track_end: i16, start: i16, end
         Checked::Refused(number) => PaintAnswer::Refused(number),
         Checked::Records(used) => {
             if good_area(track_start, track_end, start, end, state) {
-                let painted = cell_painting::paint(list, used, track_start, track_end, start, end, state);
+                let painted = cell_painting::paint(
+                    list,
+                    used,
+                    track_start,
+                    track_end,
+                    start,
+                    end,
+                    state,
+                );
                 return match painted {
                     Painted::Used(_) => PaintAnswer::Painted,
                     Painted::NoRoom => PaintAnswer::Refused(7),
@@ -104,7 +118,13 @@ fn answer(jump: Jump) -> JumpAnswer
 }
 
 // Where a search that meets what stands in the area's way can go on.
-pub fn collision_jump(list: &[i16], track_start: i16, track_end: i16, start: i16, end: i16) -> JumpAnswer
+pub fn collision_jump(
+    list: &[i16],
+    track_start: i16,
+    track_end: i16,
+    start: i16,
+    end: i16,
+) -> JumpAnswer
     ensures { λ r. ⌜ r ≡ collisionAnswer (now (list .entry)) «track_start» «track_end» start end ⌝ }
 {
     let checked = checked_list(list);
@@ -138,7 +158,12 @@ pub fn occupied_track_jump(list: &[i16], track_start: i16, track_end: i16) -> Ju
         Checked::Refused(number) => JumpAnswer::Refused(number),
         Checked::Records(used) => {
             if track_start < track_end {
-                return answer(cell_occupancy::jumps::occupied_track_jump(list, used, track_start, track_end));
+                return answer(cell_occupancy::jumps::occupied_track_jump(
+                    list,
+                    used,
+                    track_start,
+                    track_end,
+                ));
             }
             JumpAnswer::Refused(10)
         }

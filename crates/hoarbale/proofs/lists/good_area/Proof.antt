@@ -25,45 +25,49 @@ returns-4 c =
 returns-5 : tie.Need-returns-5
 returns-5 c =
     let a = c .before .before .before .before .before .args in
-    rw
-    (g-lt-true (a .track-start) (a .track-end) (omega signed),
-    g-lt-true (a .start) (a .end) (omega signed),
-    state-in (a .state) (omega signed) (omega signed),
-    g-le-false (negsuc 9999) (a .track-start) (omega signed))
+    rw (
+      g-lt-true (a .track-start) (a .track-end) (omega signed),
+      g-lt-true (a .start) (a .end) (omega signed),
+      state-in (a .state) (omega signed) (omega signed),
+      g-le-false (negsuc 9999) (a .track-start) (omega signed),
+    )
 
 returns-6 : tie.Need-returns-6
 returns-6 c =
     let a = c .before .before .before .before .before .before .args in
-    rw
-    (g-lt-true (a .track-start) (a .track-end) (omega signed),
-    g-lt-true (a .start) (a .end) (omega signed),
-    state-in (a .state) (omega signed) (omega signed),
-    g-le-true (negsuc 9999) (a .track-start) (omega signed),
-    g-le-false (a .track-end) (pos 10000) (omega signed))
+    rw (
+      g-lt-true (a .track-start) (a .track-end) (omega signed),
+      g-lt-true (a .start) (a .end) (omega signed),
+      state-in (a .state) (omega signed) (omega signed),
+      g-le-true (negsuc 9999) (a .track-start) (omega signed),
+      g-le-false (a .track-end) (pos 10000) (omega signed),
+    )
 
 returns-7 : tie.Need-returns-7
 returns-7 c =
     let a = c .before .before .before .before .before .before .before .args in
-    rw
-    (g-lt-true (a .track-start) (a .track-end) (omega signed),
-    g-lt-true (a .start) (a .end) (omega signed),
-    state-in (a .state) (omega signed) (omega signed),
-    g-le-true (negsuc 9999) (a .track-start) (omega signed),
-    g-le-true (a .track-end) (pos 10000) (omega signed),
-    g-le-false (negsuc 9999) (a .start) (omega signed))
+    rw (
+      g-lt-true (a .track-start) (a .track-end) (omega signed),
+      g-lt-true (a .start) (a .end) (omega signed),
+      state-in (a .state) (omega signed) (omega signed),
+      g-le-true (negsuc 9999) (a .track-start) (omega signed),
+      g-le-true (a .track-end) (pos 10000) (omega signed),
+      g-le-false (negsuc 9999) (a .start) (omega signed),
+    )
 
 returns-8 : tie.Need-returns-8
 returns-8 c =
     let b = c .before .before .before .before .before .before .before in
     let a = b .args in
-    rw
-    (toZ-ofZ (b .fits .end),
-    g-lt-true (a .track-start) (a .track-end) (omega signed),
-    g-lt-true (a .start) (a .end) (omega signed),
-    state-in (a .state) (omega signed) (omega signed),
-    g-le-true (negsuc 9999) (a .track-start) (omega signed),
-    g-le-true (a .track-end) (pos 10000) (omega signed),
-    g-le-true (negsuc 9999) (a .start) (omega signed))
+    rw (
+      toZ-ofZ (b .fits .end),
+      g-lt-true (a .track-start) (a .track-end) (omega signed),
+      g-lt-true (a .start) (a .end) (omega signed),
+      state-in (a .state) (omega signed) (omega signed),
+      g-le-true (negsuc 9999) (a .track-start) (omega signed),
+      g-le-true (a .track-end) (pos 10000) (omega signed),
+      g-le-true (negsuc 9999) (a .start) (omega signed),
+    )
 
 pub good-area-spec : {M : Type 1} → statement M
 good-area-spec = tie.close (tie.spec returns returns-2 returns-3 returns-4 returns-5 returns-6 returns-7 returns-8)
