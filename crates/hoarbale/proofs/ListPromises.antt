@@ -34,6 +34,10 @@ use Rattle.hoarbale.proofs.Outcome.{Is, why, because, left-of, same-cel
 pub given-exactly : (l : List ℤ) (x : Area ℤ) (r : PaintAnswer) → paintAnswer l x ≡ r ↔ Why l x r
 given-exactly l x r = ((λ e. subst (Why l x) e (why l x)), (λ w. because l x w))
 
+-- "For every input, one result and one set of lent contents is allowed": what the contract says of the call leaves no choice
+pub one-outcome : (l : List ℤ) (x : Area ℤ) {r r′ : PaintAnswer} {y y′ : List ℤ} → (r ≡ paintAnswer l x) × (y ≡ paintLeft l x) → (r′ ≡ paintAnswer l x) × (y′ ≡ paintLeft l x) → (r ≡ r′) × (y ≡ y′)
+one-outcome l x a b = (a .0 ∙ sym (b .0), a .1 ∙ sym (b .1))
+
 -- "Left behind": "unchanged"
 pub refused-unchanged : (l : List ℤ) (x : Area ℤ) (k : ℕ) → paintAnswer l x ≡ P.Refused k → paintLeft l x ≡ l
 refused-unchanged l x k e = left-of l x (P.Refused k) e
@@ -54,12 +58,9 @@ one-list l x e f =
 
 -- ---- any series of areas, good and bad, painted on an empty list of n numbers
 
-module _ (n : ℕ) (fours : n % 4 ≡ 0) (most : n ≤ 1048576) where
+module _ (n : ℕ) where
   is : (xs : List (Area ℤ)) → Is n (series n xs) (accepted n xs)
   is xs = O.all-is n xs (replicate n (pos 0)) [] (O.none-is n)
-
-  good : (xs : List (Area ℤ)) → goodLength (series n xs) ≡ true
-  good xs = O.length-good n (series n xs) fours most (is xs .long)
 
   -- the list rules hold after every series, and the list's length stays
   pub rules-hold : (xs : List (Area ℤ)) → (kept (series n xs) ≡ true) × (length (series n xs) ≡ n)
@@ -77,19 +78,7 @@ module _ (n : ℕ) (fours : n % 4 ≡ 0) (most : n ≤ 1048576) where
       let q = same-cells (series n xs) (series n ys) (i .keep) (j .keep) (i .long ∙ sym (j .long)) in
       ((λ e t p. sym (i .cells t p) ∙ q .0 e t p ∙ j .cells t p), (λ c. q .1 (λ t p. i .cells t p ∙ c t p ∙ sym (j .cells t p))))
 
-  -- "an area is refused only if it is bad or its records don't fit": 5 and 9 do not arise
-  pub refused-only : (xs : List (Area ℤ)) (x : Area ℤ) (k : ℕ) → paintAnswer (series n xs) x ≡ P.Refused k
-      → ((k ≡ 10) × (goodArea x ≡ false)) ⊎ ((k ≡ 7) × ((goodArea x ≡ true) × (Fits (series n xs) x → ⊥)))
-  refused-only xs x k e = go (why (series n xs) x) e
-    where
-      go : {r : PaintAnswer} → Why (series n xs) x r → r ≡ P.Refused k → ((k ≡ 10) × (goodArea x ≡ false)) ⊎ ((k ≡ 7) × ((goodArea x ≡ true) × (Fits (series n xs) x → ⊥)))
-      go (length-wrong p) h = no-both (good xs) p
-      go (rules-broken p q) h = no-both (is xs .keep) q
-      go (area-bad p q r) h = inl (sym (ap paintNumber h), r)
-      go (no-room p q r s) h = inr (sym (ap paintNumber h), (r, (λ f. let z = O.fits-room (series n xs) x q r f in omega arith)))
-      go (is-room p q r s) h = O.not-painted (sym h)
-
-  -- "and then counts for nothing"
+  -- a refused area "counts for nothing"
   pub counts-for-nothing : (xs : List (Area ℤ)) (x : Area ℤ) (k : ℕ) → paintAnswer (series n xs) x ≡ P.Refused k
       → (series n (xs ++ (x ∷ [])) ≡ series n xs) × (accepted n (xs ++ (x ∷ [])) ≡ accepted n xs)
   counts-for-nothing xs x k e = (
@@ -97,20 +86,38 @@ module _ (n : ℕ) (fours : n % 4 ≡ 0) (most : n ≤ 1048576) where
     O.accepted-snoc xs (replicate n (pos 0)) [] x ∙ ap (λ (r : PaintAnswer). noted r x (accepted n xs)) e,
   )
 
+  -- and an area that is painted is the newest of those accepted
+  pub painted-counts : (xs : List (Area ℤ)) (x : Area ℤ) → paintAnswer (series n xs) x ≡ P.Painted → accepted n (xs ++ (x ∷ [])) ≡ x ∷ accepted n xs
+  painted-counts xs x e = O.accepted-snoc xs (replicate n (pos 0)) [] x ∙ ap (λ (r : PaintAnswer). noted r x (accepted n xs)) e
+
+-- ---- where the length is one that is taken
+
+module _ (n : ℕ) (fours : n % 4 ≡ 0) (most : n ≤ 1048576) where
+  good : (xs : List (Area ℤ)) → goodLength (series n xs) ≡ true
+  good xs = O.length-good n (series n xs) fours most (is n xs .long)
+
+  -- "an area is refused only if it is bad or its records don't fit": 5 and 9 do not arise
+  pub refused-only : (xs : List (Area ℤ)) (x : Area ℤ) (k : ℕ) → paintAnswer (series n xs) x ≡ P.Refused k
+      → ((k ≡ 10) × (goodArea x ≡ false)) ⊎ ((k ≡ 7) × ((goodArea x ≡ true) × (Fits (series n xs) x → ⊥)))
+  refused-only xs x k e = go (why (series n xs) x) e
+    where
+      go : {r : PaintAnswer} → Why (series n xs) x r → r ≡ P.Refused k → ((k ≡ 10) × (goodArea x ≡ false)) ⊎ ((k ≡ 7) × ((goodArea x ≡ true) × (Fits (series n xs) x → ⊥)))
+      go (length-wrong p) h = no-both (good xs) p
+      go (rules-broken p q) h = no-both (is n xs .keep) q
+      go (area-bad p q r) h = inl (sym (ap paintNumber h), r)
+      go (no-room p q r s) h = inr (sym (ap paintNumber h), (r, (λ f. let z = O.fits-room (series n xs) x q r f in omega arith)))
+      go (is-room p q r s) h = O.not-painted (sym h)
+
   -- "a good area whose records fit is painted", and no other
   pub painted-if : (xs : List (Area ℤ)) (x : Area ℤ) → paintAnswer (series n xs) x ≡ P.Painted ↔ ((goodArea x ≡ true) × Fits (series n xs) x)
   painted-if xs x = (
     (λ e. (O.painted-why (series n xs) x e .good, O.painted-fits (series n xs) x e .0)),
-    (λ h. because (series n xs) x (is-room (good xs) (is xs .keep) (h .0) (O.fits-room (series n xs) x (is xs .keep) (h .0) (h .1)))),
+    (λ h. because (series n xs) x (is-room (good xs) (is n xs .keep) (h .0) (O.fits-room (series n xs) x (is n xs .keep) (h .0) (h .1)))),
   )
-
-  -- and then it is the newest of those accepted
-  pub painted-counts : (xs : List (Area ℤ)) (x : Area ℤ) → paintAnswer (series n xs) x ≡ P.Painted → accepted n (xs ++ (x ∷ [])) ≡ x ∷ accepted n xs
-  painted-counts xs x e = O.accepted-snoc xs (replicate n (pos 0)) [] x ∙ ap (λ (r : PaintAnswer). noted r x (accepted n xs)) e
 
 -- ---- the jumps
 
--- the refusal's number: 5, 9, 10, smallest first, or none
+-- "Other calls use the numbers that apply, smallest first": 5, 9, 10, or none, which is 0
 abbrev pub numberBy : Bool → Bool → Bool → ℕ
 numberBy a b c = cond a (cond b (cond c 0 10) 9) 5
 
