@@ -7,13 +7,17 @@ use crate::telling::occupied;
 use crate::telling::paint;
 use crate::telling::part;
 
-// Case 10: with three places, and with two.
-fn case_10() {
+// Case 10 with three places.
+fn three_places() {
     let mut three = [0i16; 12];
     paint(b"10 three places, 0..2 state 1:", &mut three, 0, 1, 0, 2, 1);
     paint(b"10 three places, 2..4 state 1:", &mut three, 0, 1, 2, 4, 1);
     paint(b"10 three places, 1..3 state 2:", &mut three, 0, 1, 1, 3, 2);
     paint(b"10 three places, 1..3 state 1:", &mut three, 0, 1, 1, 3, 1);
+}
+
+// With two.
+fn two_places() {
     let mut two = [0i16; 8];
     paint(b"10 two places, 0..2 state 1:", &mut two, 0, 1, 0, 2, 1);
     paint(b"10 two places, 2..4 state 1:", &mut two, 0, 1, 2, 4, 1);
@@ -33,14 +37,18 @@ fn case_11() {
     jump(b"11 far lines:", &list, -32768, 32767, -32768, 32767);
 }
 
-// No place, one too few, just enough; room that overpainting frees.
-fn room() {
+// No place, and one too few.
+fn too_short() {
     let mut none = [0i16; 0];
     paint(b"length 0:", &mut none, 0, 1, 0, 2, 1);
     paint(b"length 0, bad area:", &mut none, 1, 1, 0, 2, 1);
     jump(b"length 0, jump:", &none, 0, 1, 0, 2);
     let mut short = [0i16; 4];
     paint(b"one record short:", &mut short, 0, 2, 0, 2, 1);
+}
+
+// Just enough, and room that overpainting frees.
+fn full() {
     let mut list = [0i16; 8];
     paint(b"exactly full:", &mut list, 0, 2, 0, 2, 1);
     paint(b"one more:", &mut list, 2, 3, 0, 2, 1);
@@ -62,6 +70,10 @@ fn edges() {
         10000,
         1,
     );
+}
+
+fn edge_jumps() {
+    let list: [i16; 8] = [-10000, -10000, 10000, 1, 9999, -10000, 10000, 2];
     jump(
         b"jump over the last track:",
         &list,
@@ -193,10 +205,13 @@ fn parts() {
 }
 
 fn main() {
-    case_10();
+    three_places();
+    two_places();
     case_11();
-    room();
+    too_short();
+    full();
     edges();
+    edge_jumps();
     bad_areas();
     bad_lines();
     lengths();
