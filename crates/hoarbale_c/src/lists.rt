@@ -1,9 +1,11 @@
 // Calls on one list. A returned part of a list becomes its start and its length.
 ghost use mathlib.Core.Path.{_≡_};
 ghost use Rattle.cell_occupancy.specs.Calls.{recordsOfTrack, named, Stands};
-ghost use Rattle.hoarbale.specs.Lists.{collisionAnswer, occupiedAnswer};
+ghost use Rattle.cell_painting.specs.Painting.{areaOf};
+ghost use Rattle.hoarbale.specs.Lists.{paintAnswer, paintLeft, paintNumber, collisionAnswer, occupiedAnswer};
 ghost use Rattle.hoarbale_c.specs.Lists.{ofJump};
 use hoarbale::lists::JumpAnswer;
+use hoarbale::lists::PaintAnswer;
 
 #[repr(C)]
 pub struct NextLine {
@@ -16,6 +18,26 @@ pub struct NextLine {
 pub struct PartOfList {
     pub start: usize,
     pub length: usize,
+}
+
+// 0 where the area was painted.
+#[no_mangle]
+pub extern "C" fn hoarbale_paint(
+    list: &mut [i16],
+    track_start: i16,
+    track_end: i16,
+    start: i16,
+    end: i16,
+    state: i16,
+) -> u8
+    ensures { λ r. ⌜ r ≡ paintNumber (paintAnswer (now (list .entry)) (areaOf «track_start» «track_end» start end state)) ⌝ }
+    ensures { λ _. ⌜ now (list .exit) ≡ paintLeft (now (list .entry)) (areaOf «track_start» «track_end» start end state) ⌝ }
+{
+    let answer = hoarbale::lists::paint(list, track_start, track_end, start, end, state);
+    match answer {
+        PaintAnswer::Painted => 0,
+        PaintAnswer::Refused(number) => number,
+    }
 }
 
 fn told(answer: JumpAnswer) -> NextLine

@@ -6,10 +6,8 @@ use Prim.Native.Nat.{ℕ}
 use lib.IntN.{ℤ}
 use mir.Facts.{toZ-ofZ}
 use Rattle.signed.proofs.Laws.{signed, g-lt-true, g-lt-false}
-use Rattle.intervals.specs.Records.{Rec}
 use Rattle.intervals.specs.Lists.{Holds}
 use Rattle.intervals.proofs.Lists.{holds-decode}
-use Rattle.cell_occupancy.specs.Calls.{collisionJump}
 use Rattle.hoarbale.specs.Lists.{checkedOf, collisionOf, collisionAnswer, jumpAnswer}
 use Rattle.hoarbale.specs.declared.lists.Checked.the-variants as C
 use Rattle.hoarbale.proofs.Checked.{checked-holds}
@@ -76,9 +74,9 @@ returns-4 c =
     let b = e .before .before in
     let a = s b .args in
     let f = s b .fits in
-    let j = rw (toZ-ofZ (f .track-start), toZ-ofZ (f .track-end), toZ-ofZ (f .start), toZ-ofZ (f .end)) at (c .before .collision-jump .ensures) in
+    let j = rw (toZ-ofZ (f .track-start), toZ-ofZ (f .track-end), toZ-ofZ (f .start), toZ-ofZ (f .end), ← holds-decode (held b)) at (c .before .collision-jump .ensures) in
     c .answer .ensures
-    ∙ ap jumpAnswer (j ∙ ap (λ (rs : List (Rec ℤ)). collisionJump rs (a .track-start) (a .track-end) (a .start) (a .end)) (sym (holds-decode (held b))))
+    ∙ ap jumpAnswer j
     ∙ sym (rw (passed b, g-lt-true (a .track-start) (a .track-end) (omega (signed, e .before .if1 .left)), g-lt-true (a .start) (a .end) (omega (signed, e .if2 .left))))
 
 pub collision-jump-spec : {M : Type 1} → statement M
