@@ -1,9 +1,5 @@
 -- `paint_tile` meets its contract: what it calls speaks of the lines as read back from their bits.
 use borrow.Author.Needs.{needs}
-use mathlib.Core.Path.{_≡_}
-use mathlib.Core.List.{List}
-use Prim.Native.Nat.{ℕ}
-use lib.IntN.{ℤ}
 use lib.ListN.{length}
 use mir.Facts.{toZ-ofZ}
 use Rattle.intervals.specs.Lists.{recs}
@@ -21,11 +17,16 @@ repaint-requires c κs =
     let r = start-fits (a .tracks) (h .0) in
     let f = end-fits (a .tracks) (h .0) in
     let g = start-fits (a .lines) (h .1) in
-    let n = end-fits (a .lines) (h .1) in
-    (b .pre .0,
-    (fit16 r f g n (b .fits .state) (tile-fit (a .tracks) (a .lines) (a .state) (h .0) (h .1) (k .0) (k .1)),
-    (rw (toZ-ofZ r, toZ-ofZ f, toZ-ofZ g, toZ-ofZ n, toZ-ofZ (b .fits .state)) (b .pre .1 .1 .1 .0),
-    b .pre .1 .1 .1 .1)))
+    let n = end-fits (a .lines) (h .1) in (
+      b .pre .0,
+      (
+        fit16 r f g n (b .fits .state) (tile-fit (a .tracks) (a .lines) (a .state) (h .0) (h .1) (k .0) (k .1)),
+        (
+          rw (toZ-ofZ r, toZ-ofZ f, toZ-ofZ g, toZ-ofZ n, toZ-ofZ (b .fits .state)) (b .pre .1 .1 .1 .0),
+          b .pre .1 .1 .1 .1,
+        ),
+      ),
+    )
 
 same-length : tie.Need-same-length
 same-length c = search needs
