@@ -63,6 +63,9 @@ module _ (c : tie.After-into-limited-grid2) where
   s-limited : Limited sl
   s-limited = subst Limited (sym s-is) (limited-meets (start .args .s))
 
+  both-limited : Limited pl × Limited sl
+  both-limited = (p-limited, s-limited)
+
   -- the state is what is read back from its bits
   state-is : toZ w16 (ofZ w16 (start .args .state)) ≡ start .args .state
   state-is = toZ-ofZ (start .fits .state)
@@ -165,14 +168,14 @@ paint-tile-requires : tie.Need-paint-tile-requires
 paint-tile-requires c κs =
     let d = c .before .before in
     let g = both d in
-    (start g .pre .0 .0, ((p-limited g, s-limited g), (state-good g, (counted d .before .before .records-with .ensures, room-p (c .before)))))
+    (start g .pre .0 .0, ((search (both-limited g), search (both-limited g)), (state-good g, (counted d .before .before .records-with .ensures, room-p (c .before)))))
 
 paint-tile-requires-2 : tie.Need-paint-tile-requires-2
 paint-tile-requires-2 c κs =
     let e = c .before .before .before .before in
     let d = e .before in
     let g = both d in
-    (start g .pre .0 .1, ((s-limited g, p-limited g), (state-good g, (counted d .records-with2 .ensures, room-s e))))
+    (start g .pre .0 .1, ((search (both-limited g), search (both-limited g)), (state-good g, (counted d .records-with2 .ensures, room-s e))))
 
 put-answer-requires : tie.Need-put-answer-requires
 put-answer-requires c κs =
@@ -182,12 +185,12 @@ put-answer-requires c κs =
 grown-requires : tie.Need-grown-requires
 grown-requires c κs =
     let g = both (c .before .before .before .before .before .before .before .before .before .before .before .before) in
-    (start g .pre .1 .0 .0, p-limited g)
+    (start g .pre .1 .0 .0, search (both-limited g))
 
 grown-requires-2 : tie.Need-grown-requires-2
 grown-requires-2 c κs =
     let g = both (c .before .before .before .before .before .before .before .before .before .before .before .before .before) in
-    (start g .pre .1 .0 .1, s-limited g)
+    (start g .pre .1 .0 .1, search (both-limited g))
 
 same-length-3 : tie.Need-same-length-3
 same-length-3 c = search needs
