@@ -141,7 +141,6 @@ line-high list used h n s z f =
 
 -- ---- after an item the answers record what the board does
 
-
 below : (l : List ℤ) (i : ℕ) (vs : List ℤ) (k : ℕ) → k < i → getD (sets l i vs) k (pos 0) ≡ getD l k (pos 0)
 below l i [] k h = refl
 below l i (v ∷ vs) k h = below (set l i v) (suc i) vs k (omega arith) ∙ getD-set-other l i k v (pos 0) (omega arith)
@@ -204,7 +203,7 @@ module _ (dense : Bool) {columns : Bool} {room : Both ℕ} {old : List ℤ} {b :
   unfolding laidOn tileOf
   laid-on h st mine e c =
       let now : a′ ≡ sets answers (5 * i) (numbers (tileOf i h)) =
-          k′ .answered ∙ sym (ap (λ (t : Board). written (t .tiles) old) e) ∙ written-laid i h b old ∙ ap (λ (l : List ℤ). sets l (5 * i) (numbers (tileOf i h))) (sym (k .answered)) in
+      k′ .answered ∙ sym (ap (λ (t : Board). written (t .tiles) old) e) ∙ written-laid i h b old ∙ ap (λ (l : List ℤ). sets l (5 * i) (numbers (tileOf i h))) (sym (k .answered)) in
       sym (ap (λ (t : Board). endsOn (axisOf columns) c (t .tiles)) e) ∙ tile-next columns items answers (b .tiles) (tileOf i h) i st mine long rec c
       ∙ sym (ap (λ (l : List ℤ). endsBefore columns items l c (i + 1)) now)
 
@@ -289,7 +288,7 @@ module _ {columns dense : Bool} {items : List ℤ} {m₀ : Matrix} {a₀ p₀ s�
                 board = b′;
                 ready = subst (λ (y : Matrix). Ready columns room old b′ y a′ p′ s′) same k′;
                 recorded = recorded-next dense (g .ready) items i long (g .recorded) b′ k′ e;
-                rest = g .rest ∙ ap (λ (qs : List Queued). each w (step2 w) qs (g .board)) here ∙ each-next w (step2 w) (record { index = i; item = itemOf (itemAt items i) }) (drop (i + 1) (queued items)) (g .board) b′ e
+                rest = g .rest ∙ ap (λ (qs : List Queued). each w (step2 w) qs (g .board)) here ∙ each-next w (step2 w) (record { index = i; item = itemOf (itemAt items i) }) (drop (i + 1) (queued items)) (g .board) b′ e;
               }
           go (stopped n₁ j) e (h, z) = absurd (let o₁ : _≡_ {A = ℕ} 0 1 = cc in omega arith)
 
