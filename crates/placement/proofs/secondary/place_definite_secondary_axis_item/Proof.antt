@@ -19,7 +19,7 @@ use Rattle.request.specs.Items.{axisOf, itemAt}
 use Rattle.request.proofs.Items.{good-placement}
 use Rattle.placement.specs.Ready.{settingFor, primaryOf, secondaryOf}
 use Rattle.placement.proofs.Lays.{primary-holds, secondary-holds, sound-primary, sound-secondary, laying-long, passed, other-axis}
-use Rattle.placement.proofs.Step2.{pass-primary, pass-secondary, step2-laid, span-in, lines-in}
+use Rattle.placement.proofs.Step2.{pass-primary, pass-secondary, start-grid, step2-laid, span-in, lines-in}
 use Rattle.placement.proofs.secondary.place_definite_secondary_axis_item.Statement.{statement}
 use Rattle.placement.proofs.secondary.place_definite_secondary_axis_item.Tie as tie
 
@@ -94,13 +94,28 @@ module _ (c : tie.After-span) where
 
 primary-lines-requires : tie.Need-primary-lines-requires
 primary-lines-requires c κs =
-    let v = c .before .before .before .before in
+    let v = c .before .before .before in
     let p = z v .pre in
-    (record { long = omega (arith, p .0 .long); good = λ k h. p .0 .good k (omega arith) }, (omega arith, (lines-good v, (span-good v, p .1 .1))))
+    let k = p .1 .1 .1 .1 .1 in (
+      record { long = omega (arith, p .0 .long); good = λ j h. p .0 .good j (omega arith) },
+      (
+        omega arith,
+        (
+          lines-good v,
+          (
+            span-good v,
+            (
+              (sound-primary (k .0), secondary-holds (k .0)),
+              start-grid (z v .args .dense) (k .0) (z v .args .items .now) (z v .args .i) (k .1) (s v .start) .high,
+            ),
+          ),
+        ),
+      ),
+    )
 
 lay-requires : tie.Need-lay-requires
 lay-requires c κs =
-    let v = c .before .before .before .before .before .before .before .before in
+    let v = c .before .before .before .before .before .before .before in
     let k = z v .pre .1 .1 .1 .1 .1 .0 in
     ((primary-holds k, secondary-holds k), ((sound-primary k, sound-secondary k), ((omega signed, omega signed), ((refl, omega arith), omega arith))))
 
@@ -117,7 +132,7 @@ returns-3 : tie.Need-returns-3
 returns-3 c =
     let l = c .before .before .before in
     let f = l .before .before .before .before in
-    let v = f .before .before .before .before .before in
+    let v = f .before .before .before .before in
     let g = z v .args in
     λ room old b k rec.
     step2-laid (g .dense) k (g .items .now) (g .i) rec (P v) (S v) (n v) (s v) (f .primary-lines .result) (P-is v) (S-is v) (span-good v .0) (lines-good v) (f .primary-lines .ensures) (l .lay .ensures)

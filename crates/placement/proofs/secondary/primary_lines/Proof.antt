@@ -16,13 +16,12 @@ use Rattle.searching.specs.Clear.{clear}
 use Rattle.walk.specs.Axis.{from}
 use Rattle.walk.specs.Search.{firstLine}
 use Rattle.placement.specs.Ends.{startOf}
-use Rattle.placement.proofs.Lays.{secondary-holds, sound-primary}
-use Rattle.placement.proofs.Step2.{start-grid, line-high}
+use Rattle.placement.proofs.Step2.{line-high}
 use Rattle.placement.proofs.secondary.primary_lines.Statement.{statement}
 use Rattle.placement.proofs.secondary.primary_lines.Tie as tie
 
 implicit-start-line-requires : tie.Need-implicit-start-line-requires
-implicit-start-line-requires c κs = sound-primary (c .before .pre .1 .1 .1 .1 .1 .1 .1 .0)
+implicit-start-line-requires c κs = c .before .pre .1 .1 .1 .1 .0 .0
 
 starting-line-requires : tie.Need-starting-line-requires
 starting-line-requires c κs = search needs
@@ -47,9 +46,7 @@ module _ (c : tie.After-starting-line) where
       at (c .starting-line .ensures .1)
 
   begin-high : begin ≤ℤ pos 10000
-  begin-high =
-      let p = z .pre .1 .1 .1 .1 .1 .1 .1 in
-      start-grid (z .args .dense) (p .0) (z .args .items .now) (z .args .i) (p .1) (z .args .s .start) .high
+  begin-high = z .pre .1 .1 .1 .1 .1
 
   read : toZ w16 (ofZ w16 (c .starting-line .result)) ≡ begin
   read = toZ-ofZ (c .starting-line .ensures .0) ∙ begins
@@ -59,7 +56,7 @@ first-free-line-requires c κs =
     let p = z c .pre in
     let e = read c in
     let h = begin-high c in
-    (secondary-holds (p .1 .1 .1 .1 .1 .1 .1 .0), (p .1 .1 .0, (p .1 .1 .1 .0 .0, (p .1 .1 .1 .0 .1, omega signed))))
+    (p .1 .1 .1 .1 .0 .1, (p .1 .1 .0, (p .1 .1 .1 .0 .0, (p .1 .1 .1 .0 .1, omega signed))))
 
 -- what it finds
 module _ (c : tie.After-first-free-line) where
@@ -77,25 +74,25 @@ module _ (c : tie.After-first-free-line) where
 
   high : line ≤ℤ pos 10000
   high =
-      line-high (z b .args .secondary .now) (z b .args .matrix .«secondary_used») (secondary-holds (z b .pre .1 .1 .1 .1 .1 .1 .1 .0)) (z b .args .span) (z b .args .s) (begin b)
+      line-high (z b .args .secondary .now) (z b .args .matrix .«secondary_used») (z b .pre .1 .1 .1 .1 .0 .1) (z b .args .span) (z b .args .s) (begin b)
       (begin-high b)
 
-cast-t17 : tie.Need-cast-t17
-cast-t17 c = search needs
+cast-n : tie.Need-cast-n
+cast-n c = search needs
 
-add-t18 : tie.Need-add-t18
-add-t18 c =
+add-end : tie.Need-add-end
+add-end c =
     let f = fits c in
     let e = found c in
     let h = high c in
     let n = z (b c) .pre .1 .1 .1 .0 .1 in
-    omega (signed, cast-t17 c, rng f)
+    omega (signed, cast-n c, rng f)
 
 returns : tie.Need-returns
 returns c =
     let f = fits c in
     let e = found c in
-    let s : toZ w16 (ofZ w16 (toZ w16 (ofZ w16 (c .first-free-line .result)) +ℤ toZ w16 (z (b c) .args .span))) ≡ line c +ℤ pos (z (b c) .args .span) = omega (signed, cast-t17 c, add-t18 c) in
+    let s : toZ w16 (ofZ w16 (toZ w16 (ofZ w16 (c .first-free-line .result)) +ℤ toZ w16 (z (b c) .args .span))) ≡ line c +ℤ pos (z (b c) .args .span) = omega (signed, cast-n c, add-end c) in
     λ j. lines ((toZ-ofZ f ∙ e) j) (s j)
 
 pub primary-lines-spec : {M : Type 1} → statement M
@@ -105,6 +102,6 @@ primary-lines-spec =
     implicit-start-line-requires
     starting-line-requires
     first-free-line-requires
-    cast-t17
-    add-t18
+    cast-n
+    add-end
     returns)
