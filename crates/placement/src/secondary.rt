@@ -1,15 +1,15 @@
 // Step 2: items fixed in the secondary axis only take the first free primary line.
 ghost use mathlib.Core.Path.{_≡_};
-ghost use mathlib.Core.Bool.{Bool, true, cond};
+ghost use mathlib.Core.Bool.{cond};
 ghost use mathlib.Core.List.{List};
-ghost use Prim.Native.Nat.{ℕ, _+_, _*_, _/_, _≤_, _<_};
+ghost use Prim.Native.Nat.{ℕ, _+_, _*_, _/_, _≤_};
 ghost use lib.IntN.{ℤ, pos};
 ghost use lib.ListN.{length};
-ghost use lib.Signed.{_<ℤ_};
+ghost use lib.Signed.{_≤ℤ_, _<ℤ_};
 ghost use mir.Syntax.{w16};
 ghost use mir.Val.{SFits};
-ghost use Rattle.grid_track_counts.specs.Counts.{gridStart};
-ghost use Rattle.intervals.specs.Lists.{recs};
+ghost use Rattle.grid_track_counts.specs.Counts.{gridStart, Sound};
+ghost use Rattle.intervals.specs.Lists.{recs, Holds};
 ghost use Rattle.searching.specs.Clear.{clear};
 ghost use Rattle.walk.specs.Axis as Axis;
 ghost use Rattle.walk.specs.Axis.{Both};
@@ -156,14 +156,14 @@ fn primary_lines(
     span: u16,
     matrix: Matrix,
     answers: &[i16],
-    primary: &[i16],
     secondary: &[i16],
 ) -> Lines
     requires { ⌜ Items (now items) i ⌝ }
     requires { ⌜ 5 * i ≤ length (now answers) ⌝ }
     requires { ⌜ s .start <ℤ s .end ⌝ }
     requires { ⌜ (1 ≤ span) × (span ≤ 10000) ⌝ }
-    requires { ⌜ StandsAt columns (now items) i matrix (now answers) (now primary) (now secondary) ⌝ }
+    requires { ⌜ Sound (matrix .primary) × Holds (now secondary) (matrix .«secondary_used») ⌝ }
+    requires { ⌜ startOf columns dense (now items) (now answers) (s .start) i (gridStart (matrix .primary)) ≤ℤ pos 10000 ⌝ }
     ensures { λ r. ⌜ r ≡ Axis.from (firstLine (λ y. clear (recs (matrix .«secondary_used») (now (secondary .entry))) s (Axis.from y span)) (startOf columns dense (now (items .entry)) (now (answers .entry)) (s .start) i (gridStart (matrix .primary)))) span ⌝ }
 {
     let counts = matrix.primary;
@@ -171,10 +171,9 @@ fn primary_lines(
     let s_start = s.start;
     let start = starting_line(columns, dense, items, i, answers, s_start, grid_start);
     let line = first_free_line(secondary, matrix.secondary_used, s, start, span);
-    Lines {
-        start: line,
-        end: line + span as i16,
-    }
+    let n = span as i16;
+    let end = line + n;
+    Lines { start: line, end }
 }
 
 // Item i, if it is one of them.
@@ -208,7 +207,6 @@ fn place_definite_secondary_axis_item(
         span,
         matrix,
         answers,
-        primary,
         secondary,
     );
     lay(columns, p, s, 2, 0, matrix, i, answers, primary, secondary)
