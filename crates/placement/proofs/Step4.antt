@@ -3,7 +3,7 @@
 use mathlib.Core.Path.{_≡_, refl, sym, ap, subst, _∙_}
 use mathlib.Core.Bool.{Bool, true, false, cond}
 use mathlib.Core.List.{List}
-use Prim.Native.Nat.{ℕ, suc, _+_, _/_, _≤_, _<_}
+use Prim.Native.Nat.{ℕ, suc, _+_, _/_, _%_, _≤_, _<_}
 use native.Mathlib.Omega.{arith}
 use lib.IntN.{ℤ, pos, negsuc, _+ℤ_}
 use lib.ListN.{length, drop}
@@ -75,6 +75,19 @@ line-near rs h p n z k =
     let b = firstLine-high ok beyond z (pos 12000) (k .high) (omega signed) in
     record { low = omega signed; high = b }
 
+-- ---- what a good item's placement is
+
+pub in-order : {p : Lines} → Good (Fixed p) → p .start <ℤ p .end
+in-order (lines-good a b c) = b
+
+pub span-in : {n : ℕ} → Good (Spanned n) → (1 ≤ n) × (n ≤ 10000)
+span-in (span-good a b) = (a, b)
+
+-- bit 4 or none
+pub mark-good : (t : Bool) (flags : ℕ) → flags ≡ bit 4 t → (flags % 2 ≡ 0) × (flags < 8)
+mark-good true flags e = rw e (refl, omega arith)
+mark-good false flags e = rw e (refl, omega arith)
+
 -- ---- the items of step 4, by their placements
 
 module _ (w : Setting) (once : Place) (i : ℕ) (t : Board) where
@@ -102,7 +115,7 @@ laid-cursor : (i : ℕ) (h : Choice) (b t : Board) → laidOn i h b ≡ t → h 
 unfolding laidOn
 laid-cursor i h b t e = rw (← e)
 
-module _ {columns : Bool} {room : Both ℕ} {old : List ℤ} where
+module _ (columns : Bool) (room : Both ℕ) (old : List ℤ) where
   turn : (w : Setting) (i : ℕ) (h : Choice) (b : Board) (z : Pair) → h .cursor ≡ placeOf z → (r : Laid) (a p s : List ℤ) → AfterItem columns room old i (put w i h b) r a p s
       → AfterTurn columns room old i (put w i h b) (turnOf r z) a p s
   turn w i h b z e r a p s g = go (put w i h b) refl g
@@ -111,6 +124,7 @@ module _ {columns : Bool} {room : Both ℕ} {old : List ℤ} where
       go (going t) f (m, (x, k)) = (m, (z, (ap (λ (y : Laid). turnOf y z) x, (k, sym (laid-cursor i h b t (put-going w i h b t f)) ∙ e))))
       go (stopped n j) f (x, y) = (ap (λ (v : Laid). turnOf v z) x, y)
 
+module _ {columns : Bool} {room : Both ℕ} {old : List ℤ} where
   -- an item that an earlier step has laid
   pub stays : {b : Board} {m : Matrix} {a p s : List ℤ} (i : ℕ) (q : Pair) → Ready columns room old b m a p s → b .cursor ≡ placeOf q
       → (u : Run) → u ≡ going b → AfterTurn columns room old i u (On m q) a p s
@@ -183,7 +197,7 @@ module _ {columns : Bool} {room : Both ℕ} {old : List ℤ} {b : Board} {m : Ma
         let u = line-is p n g d in
         let o : s ≡ from (firstLine (freeAcross w b p n) (start4 w (p .start) b)) n = x ∙ ap (λ (t : ℤ). from t n) u in
         let choice = chooseLine w (placeOf once) p n b in
-        turn w i choice b z (sym (y ∙ ap (λ (t : Lines). cond dense (placeOf once) (at (p .end) (t .start))) o)) r a′ p′ s′
+        turn columns room old w i choice b z (sym (y ∙ ap (λ (t : Lines). cond dense (placeOf once) (at (p .end) (t .start))) o)) r a′ p′ s′
         (put-laid columns dense room old b m answers primary secondary k p s (pos 2) i choice (ap (λ (t : Lines). laid (axisOf columns) p t) (sym o)) refl refl (kept-laid i choice b (fair4 (chooseLine-rule w (placeOf once) p n b (k .kept .tiles))) (k .kept)) v)
 
     -- NEITHER FIXED: the lines fit 16 bits
@@ -194,11 +208,8 @@ module _ {columns : Bool} {room : Both ℕ} {old : List ℤ} {b : Board} {m : Ma
         let r = cond (overwide n (on px (b .counts))) (untested w b) (pairOf w n l b) in
         let o = at (pos 0) (pos 0) in
         let v = within-both columns (from (r .primary) n) (from (r .secondary) l) (within-pair w o 1999 b (k .kept) (subst (CursorIn 1999) (sym e) c) (omega signed) n l f g (omega arith)) in
-        go f g (x ∙ pair-is n l (least f) (least g)) (v .0) (v .1)
+        go f g (x ∙ pair-is n l (span-in f .0) (span-in g .0)) (v .0) (v .1)
       where
-        least : {n : ℕ} → Good (Spanned n) → 1 ≤ n
-        least (span-good h i) = h
-
         go : {r : Place} → Good (Spanned n) → Good (Spanned l) → placeOf z ≡ r → Within (from (r .primary) n) → Within (from (r .secondary) l) → SFits w16 (z .primary +ℤ pos n) × SFits w16 (z .secondary +ℤ pos l)
         go {r} (span-good h i) (span-good y j) e v u =
             let a = ap (λ (t : Place). t .primary) e in
@@ -219,7 +230,7 @@ module _ {columns : Bool} {room : Both ℕ} {old : List ℤ} {b : Board} {m : Ma
         let o₂ = se ∙ ap (λ (t : Place). from (t .secondary) l) u in
         let fl′ : flags ≡ bit 4 (overwide n (on px (b .counts))) = fl ∙ ap (λ (t : TrackCounts). bit 4 (overwide n t)) (k .primary-counts) in
         let choice = choosePair w (placeOf once) n l b in
-        turn w i choice b z (sym (y ∙ (λ j. cond dense (placeOf once) (at (o₁ j .end) (o₂ j .start))))) r a′ p′ s′
+        turn columns room old w i choice b z (sym (y ∙ (λ j. cond dense (placeOf once) (at (o₁ j .end) (o₂ j .start))))) r a′ p′ s′
         (put-laid columns dense room old b m answers primary secondary k p s (pos 2) i choice (λ j. laid (axisOf columns) (sym o₁ j) (sym o₂ j)) refl refl (kept-laid i choice b (fair4 (choosePair-rule w (placeOf once) n l b (k .kept .tiles))) (k .kept)) (subst (λ (t : ℕ). Laying columns p s (pos 2) t m i answers primary secondary r a′ p′ s′) fl′ v))
 
 -- ---- the loop over the items: the board that the lists stand for now, with its cursor, and that what is left to do from it is what the whole step does
@@ -247,10 +258,10 @@ once-is-near m once f g e =
 
 pub going-none : (columns dense : Bool) (items : List ℤ) (m : Matrix) (once : Pair) (a p s : List ℤ) → CursorIn 0 (placeOf once) → placeOf once ≡ at (gridStart (m .primary)) (gridStart (m .secondary))
     → Going columns dense items m a p s once 0 m once a p s
+unfolding begin4 last4
 going-none columns dense items m once a p s o e = record { once-near = o; from-start = λ room old b k. begun room old b k }
   where
     begun : (room : Both ℕ) (old : List ℤ) (b : Board) → Ready columns room old b m a p s → Left columns dense room old items b once 0 m once a p s
-    unfolding begin4 last4
     begun room old b k =
         let w = settingFor columns dense room in
         let x = at (gridStart (on (axisOf columns) (b .counts))) (gridStart (on (other (axisOf columns)) (b .counts))) in
@@ -338,6 +349,10 @@ going-done {columns} {dense} {items} {once = once} {i = i} {m = m} {a = a} {p = 
     ∙ ap (λ (qs : List Queued). each w (step4 w (placeOf once)) qs (l .board)) (queue-end items i (omega (arith, halves-length items)))
     ∙ each-end w (step4 w (placeOf once)) (l .board) in
     subst (λ (u : Run). AfterStep columns room old u (Done m) a p s) (sym e) (m, (refl, l .ready))
+
+-- the first items of good items
+pub items-upto : {l : List ℤ} {n i : ℕ} → Items l n → i < n → Items l (i + 1)
+items-upto {l} {n} {i} g h = record { long = omega (arith, g .long); good = λ j k. g .good j (omega arith) }
 
 -- the cursor of any item but the last
 pub near-all : {i : ℕ} {q : Place} → CursorIn i q → i < 2000 → CursorIn 1999 q

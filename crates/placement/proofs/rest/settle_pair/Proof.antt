@@ -7,7 +7,7 @@ use lib.Signed.{ltZ, _≤ℤ_}
 use mir.Syntax.{w16}
 use mir.Val.{SFits, toZ, ofZ}
 use mir.Facts.{toZ-ofZ}
-use Rattle.signed.proofs.Laws.{signed, fit16, sum}
+use Rattle.signed.proofs.Laws.{signed, fit16, sum, neg}
 use Rattle.intervals.specs.Lists.{recs}
 use Rattle.grid_track_counts.specs.declared.TrackCounts.{TrackCounts}
 use Rattle.grid_track_counts.specs.Counts.{gridStart, gridEnd}
@@ -58,7 +58,11 @@ add-if1 c =
 -- the test
 module _ (c : tie.After-struct-told2) where
   sum-is : toZ w16 (ofZ w16 (toZ w16 (ofZ w16 (first c)) +ℤ toZ w16 (begun c .args .n))) ≡ gridStart (counts c) +ℤ pos (begun c .args .n)
-  sum-is = let e = start-is c in omega (signed, cast-width c, add-if1 c)
+  sum-is =
+      let e = start-is c in
+      let n : SFits w16 (pos (begun c .args .n)) = cast-width c in
+      let s : SFits w16 (toZ w16 (ofZ w16 (first c)) +ℤ toZ w16 (begun c .args .n)) = add-if1 c in
+      omega (signed, neg (pos (counts c .negative)))
 
   test-is : ltZ (toZ w16 (ofZ w16 (last c))) (toZ w16 (ofZ w16 (toZ w16 (ofZ w16 (first c)) +ℤ toZ w16 (begun c .args .n)))) ≡ overwide (begun c .args .n) (counts c)
   unfolding overwide
