@@ -1,31 +1,32 @@
 -- Laws of `Above`, and of the span of tracks.
 use mathlib.Core.Path.{_≡_, refl, sym, ap, _∙_, subst}
-use mathlib.Core.Bool.{Bool, true, false, not, cond, _&&_, _||_}
+use mathlib.Core.Bool.{Bool, true, false, _||_}
 use mathlib.Core.List.{List, [], _∷_, _++_}
-use Prim.Native.Nat.{ℕ, zero, suc, _+_, _-_, _*_, _≤_, _<_}
+use Prim.Native.Nat.{ℕ, zero, suc, _+_, _*_, _≤_, _<_}
 use native.Mathlib.Omega.{arith}
-use lib.IntN.{ℤ, pos, sucℤ, _-ℤ_}
-use lib.Signed.{ltZ}
+use lib.IntN.{ℤ, pos}
+use lib.Signed.{ltZ, _≤ℤ_}
+use lib.ListN.{length, drop, getD}
 use mir.Syntax.{w16}
 use mir.Val.{ofZ}
-use Rattle.signed.proofs.Laws.{signed, dif}
-use Rattle.signed.specs.Parts.{up, dn}
-use Rattle.intervals.specs.Paint.{Run, run, Point, pt}
+use Rattle.signed.proofs.Laws.{signed}
+use Rattle.intervals.specs.Paint.{pt}
 use Rattle.intervals.proofs.Line.{Test, yea, nay, test, no-both}
 use Rattle.intervals.specs.Records.{same, between}
 use Rattle.intervals.proofs.Paint.{mem}
 use Rattle.intervals.proofs.IntOrder.{int-linear}
 use Rattle.intervals.specs.OverInt.{span}
 use Rattle.intervals.proofs.OverInt.{span-is}
-use Rattle.intervals.specs.Cut.{gapb, lx, Rn}
+use Rattle.intervals.specs.Cut.{gapb, lx}
 use Rattle.intervals.proofs.Split as Sp
 use Rattle.intervals.proofs.Split.{Late}
 use Rattle.intervals.proofs.Tracks.{In, same-self}
 use Rattle.intervals.proofs.OnTrack as Ot
 use Rattle.intervals.proofs.OnTrack.{On}
-use Rattle.flat_records.specs.Fours.{Four}
+use Rattle.flat_records.specs.Fours.{Four, fours, fourAt}
+use Rattle.flat_records.proofs.Fours.{fours-more}
 use Rattle.cell_painting.specs.Reach as Se
-use Rattle.cell_painting.specs.Reach.{runs, runOf, Lo, Tags}
+use Rattle.cell_painting.specs.Reach.{runs, AllOn, Stored}
 use Rattle.cell_painting.specs.Passes.{Above, nil, cons}
 
 pub above-append : {t : ℤ} {xs : List Four} (ys : List Four) → Above t xs → Above t ys → Above t (xs ++ ys)
@@ -47,25 +48,25 @@ late-above u b s (r ∷ rs) (Sp.cons e h) = go (test (ltZ (r .track) u)) (late-a
     go (nay i) k = cons i k
     go (yea i) k = let z : ltZ u (r .track) ≡ false = omega signed in no-both e (rw (z, i))
 
-pub lo-above : {t : ℤ} {rs : List Four} → Lo t rs → Above t rs
-lo-above Se.nil = nil
-lo-above {t} (Se.cons {r = r} e h) = cons (ap (λ (z : ℤ). ltZ z t) e ∙ int-linear .irr t) (lo-above h)
+pub all-on-above : {t : ℤ} {rs : List Four} → AllOn t rs → Above t rs
+all-on-above Se.nil = nil
+all-on-above {t} (Se.cons {r = r} e h) = cons (ap (λ (z : ℤ). ltZ z t) e ∙ int-linear .irr t) (all-on-above h)
 
 pub on-above : (t : ℤ) (rs : List Four) → On t (runs rs) → Above t rs
 on-above t [] h = nil
 on-above t (r ∷ rs) (Ot.cons e i h) = cons (ap (λ (z : ℤ). ltZ z t) e ∙ int-linear .irr t) (on-above t rs h)
 
-pub tags-append : {xs : List Four} (ys : List Four) → Tags xs → Tags ys → Tags (xs ++ ys)
-tags-append ys Se.nil k = k
-tags-append ys (Se.cons e h) k = Se.cons e (tags-append ys h k)
+pub stored-append : {xs : List Four} (ys : List Four) → Stored xs → Stored ys → Stored (xs ++ ys)
+stored-append ys Se.nil k = k
+stored-append ys (Se.cons e h) k = Se.cons e (stored-append ys h k)
 
-pub tags-l : (xs ys : List Four) → Tags (xs ++ ys) → Tags xs
-tags-l [] ys h = Se.nil
-tags-l (x ∷ xs) ys (Se.cons e h) = Se.cons e (tags-l xs ys h)
+pub stored-l : (xs ys : List Four) → Stored (xs ++ ys) → Stored xs
+stored-l [] ys h = Se.nil
+stored-l (x ∷ xs) ys (Se.cons e h) = Se.cons e (stored-l xs ys h)
 
-pub tags-r : (xs ys : List Four) → Tags (xs ++ ys) → Tags ys
-tags-r [] ys h = h
-tags-r (x ∷ xs) ys (Se.cons e h) = tags-r xs ys h
+pub stored-r : (xs ys : List Four) → Stored (xs ++ ys) → Stored ys
+stored-r [] ys h = h
+stored-r (x ∷ xs) ys (Se.cons e h) = stored-r xs ys h
 
 -- ---- the tracks from T on are of those from t₁ on
 in-of : (us ts : List ℤ) → ((u : ℤ) → mem ltZ u ts ≡ true → mem ltZ u us ≡ true) → In us ts
@@ -83,3 +84,13 @@ in-span t₁ t₂ t h = in-of (span t₁ t₂) (span t t₂) (λ u k. span-is t�
     go u e (yea i) j = no-both e (rw i)
     go u e (nay i) (nay j) = no-both e (rw (i, j))
     go u e (nay i) (yea j) = let z : ltZ u t₁ ≡ false = omega signed in rw (z, j)
+
+-- records from k on, by their places
+pub above-at : (l : List ℤ) (t : ℤ) (m k : ℕ) → 4 * (k + m) ≤ length l → ((i : ℕ) → k ≤ i → i < k + m → t ≤ℤ getD l (4 * i) (pos 0)) → Above t (fours m (drop (4 * k) l))
+above-at l t zero k h f = nil
+above-at l t (suc m) k h f =
+    let e : 4 * k + 4 ≡ 4 * suc k = omega arith in
+    let b = f k (omega arith) (omega arith) in
+    let z : ltZ (getD l (4 * k) (pos 0)) t ≡ false = omega signed in
+    subst (Above t) (sym (fours-more m l (4 * k) (omega arith) ∙ ap (λ (j : ℕ). fourAt l (4 * k) ∷ fours m (drop j l)) e))
+    (cons z (above-at l t m (suc k) (omega arith) (λ i a b. f i (omega arith) (omega arith))))

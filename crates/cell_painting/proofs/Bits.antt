@@ -1,15 +1,13 @@
 -- A number of 16 bits is read back from its bits: what a test or a callee says of what is read back is said of the number.
-use mathlib.Core.Path.{_≡_, refl, sym, ap, _∙_}
-use mathlib.Core.Bool.{Bool, true, false, not, cond}
+use mathlib.Core.Path.{_≡_, sym, _∙_}
+use mathlib.Core.Bool.{Bool, true, false}
 use mathlib.Core.List.{List}
-use Prim.Native.Nat.{ℕ, zero, suc, _*_, _-_}
-use lib.IntN.{ℤ, pos}
+use Prim.Native.Nat.{ℕ, suc, _*_}
+use lib.IntN.{ℤ}
 use lib.Signed.{ltZ}
 use mir.Syntax.{w16}
 use mir.Val.{toZ, ofZ, SFits}
 use mir.Facts.{toZ-ofZ}
-use Rattle.intervals.specs.Paint.{Point, pt}
-use Rattle.intervals.specs.Cut.{gapb, lx}
 use Rattle.flat_records.specs.Fours.{Four, fourAt}
 use Rattle.cell_painting.specs.Reach.{earlyR, lateR, beforeLate, afterEarly, Pieced, OnTrack, Apart, Reaches}
 use Rattle.cell_painting.specs.Passes.{Good}

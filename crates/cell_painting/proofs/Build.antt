@@ -1,17 +1,17 @@
--- Laws for `build` and `cut_out`.
+-- What becomes of the records that a track's paint reaches: from the first and the last of them to `new`.
 use mathlib.Core.Path.{_≡_, refl, sym, ap, _∙_}
-use mathlib.Core.Bool.{Bool, true, false, not, cond}
+use mathlib.Core.Bool.{Bool, true, false, cond}
 use mathlib.Core.List.{List, [], _∷_, _++_, map}
-use Prim.Native.Nat.{ℕ, zero, suc, _+_, _-_, _*_, _^_, _<_, _≤_}
+use Prim.Native.Nat.{ℕ, suc, _+_, _-_, _*_, _^_, _<_, _≤_}
 use native.Mathlib.Omega.{arith}
 use lib.IntN.{ℤ, pos}
 use lib.Dec.{eqb}
 use lib.Signed.{ltZ, mag}
-use lib.ListN.{drop, getD, length}
+use lib.ListN.{drop, length}
 use mir.Syntax.{w16}
-use mir.Val.{toZ, ofZ, SFits}
+use mir.Val.{ofZ, SFits}
 use mir.Facts.{toZ-ofZ}
-use Rattle.intervals.specs.Paint.{Run, run, Point, pt}
+use Rattle.intervals.specs.Paint.{run, Point, pt}
 use Rattle.intervals.proofs.Line.{Test, yea, nay, test}
 use Rattle.intervals.proofs.IntOrder.{int-linear}
 use Rattle.intervals.specs.Cut.{new, lrem, lstart, rtail, rend, lx, Rn}
@@ -19,7 +19,7 @@ use Rattle.flat_records.specs.Fours.{Four, fourAt, fours}
 use Rattle.flat_records.proofs.Parts.{same16}
 use Rattle.flat_records.proofs.Fours.{fours-more, fours-snoc, fourAt-drop-add}
 use Rattle.cell_painting.proofs.Bits.{ζ}
-use Rattle.cell_painting.specs.Reach.{runOf, runs, startOf, leftOf, endOf, rightOf, Tags, nil, cons, Built, Pieced, OnTrack}
+use Rattle.cell_painting.specs.Reach.{runOf, runs, startOf, leftOf, endOf, rightOf, nil, cons, Built, Pieced, OnTrack}
 
 module _ (t c v d z a b s : ℤ) (T : SFits w16 t) (C : SFits w16 c) (Vv : SFits w16 v) (D : SFits w16 d) (Z : SFits w16 z) (A : SFits w16 a) (B : SFits w16 b) (S : SFits w16 s)
     (st en : ℤ) (o : mag st < 2 ^ 15) (o′ : mag en < 2 ^ 15)
@@ -44,8 +44,8 @@ module _ (t c v d z a b s : ℤ) (T : SFits w16 t) (C : SFits w16 c) (Vv : SFits
   b3 h k = record {
     is = (λ i. L1 (toZ-ofZ T i) (toZ-ofZ C i) (toZ-ofZ A i) (toZ-ofZ Vv i) ++ (run (pt (toZ-ofZ T i) (est i)) (pt (toZ-ofZ T i) (een i)) (ofZ w16 (toZ-ofZ S i)) ∷ L1 (toZ-ofZ T i) (toZ-ofZ B i) (toZ-ofZ D i) (toZ-ofZ Z i)))
         ∙ sym (rw (left true h, right true k));
-    tags = cons (ap ζ (toZ-ofZ Vv)) (cons (ap ζ (toZ-ofZ S)) (cons (ap ζ (toZ-ofZ Z)) nil));
-    los = cons (toZ-ofZ T) (cons (toZ-ofZ T) (cons (toZ-ofZ T) nil));
+    stored = cons (ap ζ (toZ-ofZ Vv)) (cons (ap ζ (toZ-ofZ S)) (cons (ap ζ (toZ-ofZ Z)) nil));
+    placed = cons (toZ-ofZ T) (cons (toZ-ofZ T) (cons (toZ-ofZ T) nil));
   }
 
   pub b2l : true ≡ leftOf (ζ c) (ofZ w16 (ζ v)) (ζ a) (ofZ w16 (ζ s)) → false ≡ rightOf (ζ d) (ofZ w16 (ζ z)) (ζ b) (ofZ w16 (ζ s))
@@ -53,8 +53,8 @@ module _ (t c v d z a b s : ℤ) (T : SFits w16 t) (C : SFits w16 c) (Vv : SFits
   b2l h k = record {
     is = (λ i. L1 (toZ-ofZ T i) (toZ-ofZ C i) (toZ-ofZ A i) (toZ-ofZ Vv i) ++ (run (pt (toZ-ofZ T i) (est i)) (pt (toZ-ofZ T i) (een i)) (ofZ w16 (toZ-ofZ S i)) ∷ []))
         ∙ sym (rw (left true h, right false k));
-    tags = cons (ap ζ (toZ-ofZ Vv)) (cons (ap ζ (toZ-ofZ S)) nil);
-    los = cons (toZ-ofZ T) (cons (toZ-ofZ T) nil);
+    stored = cons (ap ζ (toZ-ofZ Vv)) (cons (ap ζ (toZ-ofZ S)) nil);
+    placed = cons (toZ-ofZ T) (cons (toZ-ofZ T) nil);
   }
 
   pub b2r : false ≡ leftOf (ζ c) (ofZ w16 (ζ v)) (ζ a) (ofZ w16 (ζ s)) → true ≡ rightOf (ζ d) (ofZ w16 (ζ z)) (ζ b) (ofZ w16 (ζ s))
@@ -62,16 +62,16 @@ module _ (t c v d z a b s : ℤ) (T : SFits w16 t) (C : SFits w16 c) (Vv : SFits
   b2r h k = record {
     is = (λ i. run (pt (toZ-ofZ T i) (est i)) (pt (toZ-ofZ T i) (een i)) (ofZ w16 (toZ-ofZ S i)) ∷ L1 (toZ-ofZ T i) (toZ-ofZ B i) (toZ-ofZ D i) (toZ-ofZ Z i))
         ∙ sym (rw (left false h, right true k));
-    tags = cons (ap ζ (toZ-ofZ S)) (cons (ap ζ (toZ-ofZ Z)) nil);
-    los = cons (toZ-ofZ T) (cons (toZ-ofZ T) nil);
+    stored = cons (ap ζ (toZ-ofZ S)) (cons (ap ζ (toZ-ofZ Z)) nil);
+    placed = cons (toZ-ofZ T) (cons (toZ-ofZ T) nil);
   }
 
   pub b1 : false ≡ leftOf (ζ c) (ofZ w16 (ζ v)) (ζ a) (ofZ w16 (ζ s)) → false ≡ rightOf (ζ d) (ofZ w16 (ζ z)) (ζ b) (ofZ w16 (ζ s))
       → Built t c v d z a b s (fours 1 (ζ t ∷ ζ st ∷ ζ en ∷ ζ s ∷ pos 0 ∷ pos 0 ∷ pos 0 ∷ pos 0 ∷ pos 0 ∷ pos 0 ∷ pos 0 ∷ pos 0 ∷ []))
   b1 h k = record {
     is = (λ i. run (pt (toZ-ofZ T i) (est i)) (pt (toZ-ofZ T i) (een i)) (ofZ w16 (toZ-ofZ S i)) ∷ []) ∙ sym (rw (left false h, right false k));
-    tags = cons (ap ζ (toZ-ofZ S)) nil;
-    los = cons (toZ-ofZ T) nil;
+    stored = cons (ap ζ (toZ-ofZ S)) nil;
+    placed = cons (toZ-ofZ T) nil;
   }
 
 -- ---- from the first and the last record to `new`
@@ -154,15 +154,15 @@ module _ (l : List ℤ) (i j : ℕ) (t a b s : ℤ) (h : i < j) (k : 4 * j ≤ l
       ap (rtail lx (pt t b) s′) mid-last ∙ rtail-is t (Y .end) b (pt (Y .track) (Y .start)) z s′ r2 in
       let p4 : rend lx (pt t b) s′ (runs (fours (j - i) (drop (4 * i) l))) ≡ pt t (endOf (Y .end) z b s′) =
       ap (rend lx (pt t b) s′) mid-last ∙ rend-is t (Y .end) b (pt (Y .track) (Y .start)) z s′ r2 in
-      record { is = q .is ∙ sym (λ m. p1 m ++ (run (p2 m) (p4 m) s′ ∷ p3 m)); tags = q .tags; los = q .los }
+      record { is = q .is ∙ sym (λ m. p1 m ++ (run (p2 m) (p4 m) s′ ∷ p3 m)); stored = q .stored; placed = q .placed }
 
 -- no record is reached
 pub alone : (l : List ℤ) (i j : ℕ) (t a b s : ℤ) → SFits w16 t → SFits w16 a → SFits w16 b → SFits w16 s → j - i ≡ 0
     → Pieced t a b (ofZ w16 s) (fours (j - i) (drop (4 * i) l)) (fours 1 (ζ t ∷ ζ a ∷ ζ b ∷ ζ s ∷ pos 0 ∷ pos 0 ∷ pos 0 ∷ pos 0 ∷ pos 0 ∷ pos 0 ∷ pos 0 ∷ pos 0 ∷ []))
 alone l i j t a b s T A B S e = record {
   is = (λ m. run (pt (toZ-ofZ T m) (toZ-ofZ A m)) (pt (toZ-ofZ T m) (toZ-ofZ B m)) (ofZ w16 (toZ-ofZ S m)) ∷ []) ∙ sym (ap (λ (k : ℕ). new lx (pt t a) (pt t b) (ofZ w16 s) (runs (fours k (drop (4 * i) l)))) e);
-  tags = cons (ap ζ (toZ-ofZ S)) nil;
-  los = cons (toZ-ofZ T) nil;
+  stored = cons (ap ζ (toZ-ofZ S)) nil;
+  placed = cons (toZ-ofZ T) nil;
 }
 
 -- a callee speaks of its arguments as read back

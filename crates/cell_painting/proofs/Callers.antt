@@ -1,16 +1,19 @@
 -- For callers: what a paint leaves is what the next one requires, and a callee's words said of the numbers that it was called with.
-use mathlib.Core.Path.{_≡_, subst, sym, _∙_}
-use mathlib.Core.Bool.{true}
+use mathlib.Core.Path.{_≡_, subst, sym, ap, _∙_}
+use mathlib.Core.Bool.{true, cond, _&&_}
 use mathlib.Core.List.{List}
 use Prim.Native.Nat.{ℕ, _*_, _≤_}
 use lib.IntN.{ℤ, pos}
+use lib.Signed.{ltZ}
 use lib.ListN.{length, replicate}
 use mir.Syntax.{w16}
 use mir.Val.{SFits}
 use mir.Facts.{toZ-ofZ}
-use Rattle.intervals.specs.Records.{Rec}
-use Rattle.intervals.specs.OverInt.{fit, paintList, flat}
-use Rattle.intervals.specs.Lists.{recs, Holds, goodArea}
+use Rattle.intervals.specs.Records.{Rec, between}
+use Rattle.intervals.specs.OverInt.{cellOf, keeps, fit, paintList, flat}
+use Rattle.intervals.specs.Lists.{allIn, areaIn, goodArea, recs, Holds}
+use Rattle.intervals.proofs.Grid.{and-l}
+use Rattle.intervals.proofs.OverInt.{paintList-cell}
 use Rattle.intervals.proofs.Lists.{flat-holds, flat-recs, empty-holds}
 use Rattle.intervals.proofs.Limits.{paintList-rules}
 use Rattle.cell_painting.specs.Painting.{stateOf, areaOf}
@@ -28,6 +31,18 @@ painted-holds {l} {x} {used} {n} t₁ t₂ a b s h g r en ex =
 pub painted-recs : (l : List ℤ) (used : ℕ) (t₁ t₂ a b s : ℤ) {x : List ℤ} {n : ℕ} → n ≡ length (paintList (areaOf t₁ t₂ a b s) (recs used l))
     → x ≡ flat (length l) (paintList (areaOf t₁ t₂ a b s) (recs used l)) → recs n x ≡ paintList (areaOf t₁ t₂ a b s) (recs used l)
 painted-recs l used t₁ t₂ a b s {x} {n} en ex = (λ i. recs (en i) (ex i)) ∙ flat-recs (length l) (paintList (areaOf t₁ t₂ a b s) (recs used l))
+
+-- and its cells are those of the list before, with the area's state on the area
+pub painted-cells : (l : List ℤ) (used : ℕ) (t₁ t₂ a b s : ℤ) {x : List ℤ} {n : ℕ} → Holds l used → fit (areaOf t₁ t₂ a b s) ≡ true → n ≡ length (paintList (areaOf t₁ t₂ a b s) (recs used l))
+    → x ≡ flat (length l) (paintList (areaOf t₁ t₂ a b s) (recs used l))
+    → (t p : ℤ) → cellOf (recs n x) t p ≡ cond (between ltZ t₁ t₂ t && between ltZ a b p) (stateOf s) (cellOf (recs used l) t p)
+painted-cells l used t₁ t₂ a b s h f en ex t p =
+    ap (λ (rs : List (Rec ℤ)). cellOf rs t p) (painted-recs l used t₁ t₂ a b s en ex)
+    ∙ paintList-cell t₁ t₂ a b (stateOf s) (recs used l) f (and-l (keeps (recs used l)) (allIn (recs used l)) (h .keep)) t p
+
+-- a good area is one that can be painted
+pub good-fit : (t₁ t₂ a b s : ℤ) → goodArea (areaOf t₁ t₂ a b s) ≡ true → fit (areaOf t₁ t₂ a b s) ≡ true
+good-fit t₁ t₂ a b s h = and-l (fit (areaOf t₁ t₂ a b s)) (areaIn (areaOf t₁ t₂ a b s)) h
 
 -- a cleared list holds nothing
 pub cleared-holds : (m : ℕ) {x : List ℤ} → x ≡ replicate m (pos 0) → Holds x 0

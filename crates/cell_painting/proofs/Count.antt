@@ -1,18 +1,17 @@
 -- The invariant of `count`.
 use mathlib.Core.Path.{_≡_, refl, sym, ap, _∙_, subst}
-use mathlib.Core.Bool.{Bool, true, false, not, cond}
-use mathlib.Core.List.{List, [], _∷_, _++_, append-assoc}
-use Prim.Native.Nat.{ℕ, zero, suc, _+_, _-_, _*_, _≤_, _<_}
+use mathlib.Core.Bool.{true, false}
+use mathlib.Core.List.{List, [], _∷_, _++_}
+use Prim.Native.Nat.{ℕ, _+_, _-_, _*_, _≤_}
 use native.Mathlib.Omega.{arith}
-use lib.IntN.{ℤ, pos, negsuc, sucℤ, _-ℤ_, _+ℤ_}
+use lib.IntN.{ℤ, pos, _-ℤ_, _+ℤ_}
 use lib.Signed.{ltZ}
 use lib.ListN.{length, drop, length-map}
 use lib.Seq.{drop-drop}
 use mir.Syntax.{w16}
-use mir.Val.{toZ, ofZ, SFits}
-use mir.Facts.{toZ-ofZ}
-use Rattle.signed.proofs.Laws.{signed, dif, rng}
-use Rattle.signed.specs.Parts.{up, dn, gap}
+use mir.Val.{ofZ, SFits}
+use Rattle.signed.proofs.Laws.{signed, rng}
+use Rattle.signed.specs.Parts.{gap}
 use Rattle.intervals.specs.Paint.{pt}
 use Rattle.intervals.specs.OverInt.{span}
 use Rattle.intervals.specs.Cut.{new, lx, Rn, H, N, PT}
@@ -24,7 +23,7 @@ use Rattle.flat_records.specs.Fours.{Four, fours}
 use Rattle.flat_records.proofs.Fours.{length-fours}
 use Rattle.cell_painting.specs.Reach.{runs, runOf, Apart, Reaches}
 use Rattle.cell_painting.proofs.Found.{Found, found, fours-add}
-use Rattle.cell_painting.specs.Passes.{Good, Above, nil, cons}
+use Rattle.cell_painting.specs.Passes.{Good, Above, Tail}
 use Rattle.cell_painting.proofs.Above.{above-append, above-late, late-above, on-above}
 
 pub suc-of : (t u : ℤ) → u ≡ t -ℤ pos 1 → u +ℤ pos 1 ≡ t
@@ -52,16 +51,17 @@ pub record CInv (l : List ℤ) (used : ℕ) (t₁ t₂ a b s t : ℤ) (r more le
   pub old : less + r ≤ used
   pub few : more + 3 * gap t₁ t ≤ 200000
 
-pub c-start : (l : List ℤ) (used : ℕ) (t₁ t₂ a b s : ℤ) → SFits w16 t₁ → SFits w16 t₂ → 4 * used ≤ length l → K (runs (fours used l)) → Good a b s → ltZ t₁ t₂ ≡ true → CInv l used t₁ t₂ a b s t₂ used 0 0
-c-start l used t₁ t₂ a b s F G h k g z =
-    let e : used - used ≡ 0 = omega arith in
+pub c-start : (l : List ℤ) (used behind : ℕ) (t₁ t₂ a b s : ℤ) → SFits w16 t₁ → SFits w16 t₂ → 4 * used ≤ length l → K (runs (fours used l)) → Good a b s → ltZ t₁ t₂ ≡ true
+    → Tail l used behind t₂ → CInv l used t₁ t₂ a b s t₂ (used - behind) 0 0
+c-start l used behind t₁ t₂ a b s F G h k g z q =
+    let e : used - (used - behind) ≡ behind = omega (arith, q .few) in
     let n : span t₂ t₂ ≡ [] = span-none t₂ t₂ (omega signed) in
     record {
       fits = h;
       keep = k;
       good = g;
       left = omega arith;
-      above = subst (λ (m : ℕ). Above t₂ (fours m (drop (4 * used) l))) (sym e) nil;
+      above = subst (λ (m : ℕ). Above t₂ (fours m (drop (4 * (used - behind)) l))) (sym e) (q .above);
       low = omega signed;
       high = omega signed;
       news = sym (ap (λ (ts : List ℤ). sumN a b (ofZ w16 s) ts (runs (fours used l))) n);

@@ -1,21 +1,20 @@
--- What the two searches find: a list taken apart for `split`.
+-- What the two searches find: the records before what is reached, those that are, and those behind.
 use mathlib.Core.Path.{_≡_, refl, sym, ap, _∙_, subst}
-use mathlib.Core.Bool.{Bool, true, false, not, cond}
-use mathlib.Core.List.{List, [], _∷_, _++_, map, append-assoc}
-use mathlib.Core.Logic.{_⊎_, inl, inr, ⊎-elim}
+use mathlib.Core.Bool.{true, false}
+use mathlib.Core.List.{List, [], _∷_, _++_, append-assoc}
+use mathlib.Core.Logic.{_⊎_, ⊎-elim}
 use Prim.Native.Nat.{ℕ, zero, suc, _+_, _-_, _*_, _<_, _≤_}
 use native.Mathlib.Omega.{arith}
 use native.Mathlib.Nat.{zero-add, suc-add}
-use lib.IntN.{ℤ, pos}
+use lib.IntN.{ℤ}
 use lib.Signed.{ltZ}
-use lib.ListN.{drop, getD, length}
+use lib.ListN.{drop, length}
 use lib.Seq.{drop-drop}
 use mir.Syntax.{w16}
-use mir.Val.{toZ, ofZ}
-use Rattle.intervals.specs.Paint.{Run, run, Point, pt}
-use Rattle.intervals.proofs.Line.{_≺_, Test, yea, nay, test, no-both}
-use Rattle.intervals.specs.Cut.{gapb, new, lx, Rn, P, H}
-use Rattle.intervals.proofs.Split as Sp
+use mir.Val.{ofZ}
+use Rattle.intervals.specs.Paint.{Point, pt}
+use Rattle.intervals.proofs.Line.{_≺_, Test, yea, nay, test}
+use Rattle.intervals.specs.Cut.{new, lx, Rn, P, H}
 use Rattle.intervals.proofs.Split.{EarlyEnd, NotEarly, NotLateEnd, Late, late-append, nil, cons, snoc}
 use Rattle.intervals.proofs.Tracks.{OK, K}
 use Rattle.intervals.proofs.OnTrack as Ot

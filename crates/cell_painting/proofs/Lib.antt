@@ -5,5 +5,6 @@ pub mod Above
 pub mod Count
 pub mod Moves
 pub mod Sweep
+pub mod Swept
 pub mod Whole
 pub mod Callers

@@ -1,18 +1,16 @@
 -- What moving records does to a list with a gap, and the two ends of a step.
 use mathlib.Core.Path.{_≡_, refl, sym, ap, _∙_, subst}
-use mathlib.Core.Bool.{Bool, true, false, not, cond, _||_}
+use mathlib.Core.Bool.{Bool, true, false, cond, _||_}
 use mathlib.Core.List.{List, [], _∷_, _++_, append-assoc}
-use Prim.Native.Nat.{ℕ, zero, suc, _+_, _-_, _*_, _≤_, _<_}
+use Prim.Native.Nat.{ℕ, _+_, _-_, _*_, _≤_}
 use native.Mathlib.Omega.{arith}
 use native.Mathlib.Nat.{zero-add, suc-add}
 use lib.Dec.{leb}
-use lib.IntN.{ℤ, pos}
-use lib.Signed.{ltZ}
+use lib.IntN.{ℤ}
 use lib.ListN.{length, take, drop, length-drop, length-append, take-append-drop}
-use lib.Seq.{paste, length-paste, drop-drop, take-add}
+use lib.Seq.{paste, length-paste, take-add}
 use mir.Syntax.{w16}
-use mir.Val.{toZ, ofZ, SFits}
-use mir.Facts.{toZ-ofZ}
+use mir.Val.{ofZ}
 use Rattle.intervals.specs.Paint.{pt}
 use Rattle.intervals.specs.Cut.{new, lx, Rn, P, H, N}
 use Rattle.intervals.proofs.Split.{Late}
@@ -21,11 +19,11 @@ use Rattle.intervals.proofs.Tracks as Tr
 use Rattle.flat_records.specs.Fours.{Four, enc, fours}
 use Rattle.flat_records.proofs.Parts.{drop-paste-at, drop-paste-past}
 use Rattle.flat_records.proofs.Fours.{fours-paste, enc-fours, length-fours}
-use Rattle.cell_painting.specs.Reach.{runs, runOf, Tags, Apart, Reaches}
+use Rattle.cell_painting.specs.Reach.{runs, runOf, Stored, Apart, Reaches}
 use Rattle.cell_painting.proofs.Build.{map-append}
-use Rattle.cell_painting.proofs.Found.{Found, found, fours-add}
+use Rattle.cell_painting.proofs.Found.{Found, found}
 use Rattle.cell_painting.specs.Passes.{Good, Above, Gapped, Stepped, stepped, held}
-use Rattle.cell_painting.proofs.Above.{above-append, late-above, lo-above, tags-append, tags-l, tags-r}
+use Rattle.cell_painting.proofs.Above.{above-append, late-above, all-on-above, stored-append, stored-l, stored-r}
 use Rattle.cell_painting.proofs.Count.{halves, length-runs}
 
 enc-rest : (xs : List Four) (n : ℕ) (z : List ℤ) → fours (length xs + n) (enc xs ++ z) ≡ xs ++ fours n z
@@ -153,12 +151,13 @@ module _ (all : Bool) {a b s t : ℤ} {l : List ℤ} {r w top : ℕ} (g : Gapped
         high = omega (arith, g .high);
         room = omega (arith, up-long, g .room);
         keep = subst (λ (z : List Four). K (runs z)) (sym up-all) (g .keep);
-        tags = subst Tags (sym up-all) (g .tags);
+        stored = subst Stored (sym up-all) (g .stored);
       };
       long = up-long;
       tail = up-tail;
       is = ap runs up-all ∙ sym (chosen f ef ∙ ap (λ (z : Bool). cond z (P a b σ t rs) rs) left);
       above = subst (Above t) (sym up-post) (late-above t b σ (post ++ W) (s-found .behind));
+      down = omega arith;
     }
 
     -- the track is painted
@@ -203,19 +202,20 @@ module _ (all : Bool) {a b s t : ℤ} {l : List ℤ} {r w top : ℕ} (g : Gapped
             high = omega (arith, g .high);
             room = omega (arith, y-long, up-long, g .room);
             keep = subst K (sym y-is) (Tr.P-keep a b σ (good .less) (good .state) t (g .keep));
-            tags = subst Tags (sym y-all) (tags-append (fours n put ++ (post ++ W)) (tags-l pre (mid ++ (post ++ W)) tagged) (tags-append (post ++ W) (q .become .tags) (tags-r mid (post ++ W) (tags-r pre (mid ++ (post ++ W)) tagged))));
+            stored = subst Stored (sym y-all) (stored-append (fours n put ++ (post ++ W)) (stored-l pre (mid ++ (post ++ W)) tagged) (stored-append (post ++ W) (q .become .stored) (stored-r mid (post ++ W) (stored-r pre (mid ++ (post ++ W)) tagged))));
           };
           long = y-long ∙ up-long;
           tail = m-past x put y (v - n) n (4 * (v - n)) (4 * n) refl refl hx hp e′ w (omega (arith, fits)) ∙ up-tail;
           is = y-is ∙ sym is-P;
-          above = subst (Above t) (sym y-post) (above-append (post ++ W) (lo-above (q .become .los)) (late-above t b σ (post ++ W) (s-found .behind)));
+          above = subst (Above t) (sym y-post) (above-append (post ++ W) (all-on-above (q .become .placed)) (late-above t b σ (post ++ W) (s-found .behind)));
+          down = omega arith;
         }
           where
             y-long : length y ≡ length x
             y-long = m-long x put y (v - n) n (4 * (v - n)) (4 * n) refl refl hx hp e′
 
-            tagged : Tags (pre ++ (mid ++ (post ++ W)))
-            tagged = subst Tags whole (g .tags)
+            tagged : Stored (pre ++ (mid ++ (post ++ W)))
+            tagged = subst Stored whole (g .stored)
 
 -- what is pasted where it was changes nothing
 pub paste-self : (l : List ℤ) (from at m : ℕ) → at ≡ from → l ≡ paste l at (drop from l) m

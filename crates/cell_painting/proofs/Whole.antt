@@ -14,10 +14,10 @@ use mir.Val.{toZ, ofZ}
 use borrow.Author.Tests.{eqb-true}
 use Rattle.intervals.specs.Records.{Rec, rec, behind, follows}
 use Rattle.intervals.specs.Paint.{run, Point, pt, toRun, toRec}
-use Rattle.intervals.specs.OverInt.{ok, keeps, fit, paintList, span, digits, encode, flat}
+use Rattle.intervals.specs.OverInt.{ok, keeps, fit, paintList, span, encode, flat}
 use Rattle.intervals.specs.Lists.{allIn, recs, Holds}
 use Rattle.intervals.specs.Cut.{lx, Rn, PT, sw}
-use Rattle.intervals.proofs.Line.{From, none, next, Keeps, empty, first, Test, yea, nay, test, no-both}
+use Rattle.intervals.proofs.Line.{From, next, first, Test, yea, nay, test, no-both}
 use Rattle.intervals.proofs.Grid as Gr
 use Rattle.intervals.proofs.Grid.{Span, and-l, and-r, and₃}
 use Rattle.intervals.proofs.IntOrder.{int-linear}
@@ -25,11 +25,11 @@ use Rattle.intervals.proofs.Index.{rows-snoc}
 use Rattle.intervals.proofs.Lists.{holds-room, holds-used, holds-zeros}
 use Rattle.intervals.proofs.Tracks.{OK, K, Grow, Fits, Shrunk, shrunk, more, sw-all, room-more, PT-keep}
 use Rattle.intervals.proofs.Spans.{dis-span, in-self}
-use Rattle.flat_records.specs.Fours.{Four, enc, fours, fourAt, Laid}
+use Rattle.flat_records.specs.Fours.{Four, enc, fours, fourAt}
 use Rattle.flat_records.proofs.Fours.{laid-is, length-enc, length-fours, fours-snoc, enc-fours}
 use Rattle.cell_painting.specs.Painting.{stateOf, areaOf}
 use Rattle.cell_painting.specs.Reach as Re
-use Rattle.cell_painting.specs.Reach.{runs, runOf, Tags}
+use Rattle.cell_painting.specs.Reach.{runs, Stored}
 use Rattle.cell_painting.specs.Passes.{Good, Ready, Roomy, Swept}
 use Rattle.cell_painting.proofs.Build.{map-append}
 use Rattle.cell_painting.proofs.Above.{in-span}
@@ -83,31 +83,31 @@ runs-are : (rs : List Four) → Plain rs → runs rs ≡ map toRun (map recOf rs
 runs-are [] nil = refl
 runs-are (r ∷ rs) (cons e h) = λ i. run (pt (r .track) (r .start)) (pt (r .track) (r .end)) (ofZ w16 (e i)) ∷ runs-are rs h i
 
-tags-behind : (t b : ℤ) (s : ℕ) (rs : List Four) → Plain rs → behind ltZ ok t b s (map recOf rs) ≡ true → Tags rs
-tags-behind t b s [] p h = Re.nil
-tags-behind t b s (r ∷ rs) (cons e p) h =
+stored-behind : (t b : ℤ) (s : ℕ) (rs : List Four) → Plain rs → behind ltZ ok t b s (map recOf rs) ≡ true → Stored rs
+stored-behind t b s [] p h = Re.nil
+stored-behind t b s (r ∷ rs) (cons e p) h =
     let v = natAbs (r .state) in
     let m = behind ltZ ok (r .track) (r .end) v (map recOf rs) in
     let j = and₃ (ltZ (r .start) (r .end)) (ok v) m (and-r (follows ltZ t b s (r .track) (r .start) v) (ltZ (r .start) (r .end) && (ok v && m)) h) in
-    Re.cons (back (r .state) e (j .1)) (tags-behind (r .track) (r .end) v rs p (j .2))
+    Re.cons (back (r .state) e (j .1)) (stored-behind (r .track) (r .end) v rs p (j .2))
 
-tags-are : (rs : List Four) → Plain rs → keeps (map recOf rs) ≡ true → Tags rs
-tags-are [] p h = Re.nil
-tags-are (r ∷ rs) (cons e p) h =
+stored-are : (rs : List Four) → Plain rs → keeps (map recOf rs) ≡ true → Stored rs
+stored-are [] p h = Re.nil
+stored-are (r ∷ rs) (cons e p) h =
     let v = natAbs (r .state) in
     let m = behind ltZ ok (r .track) (r .end) v (map recOf rs) in
     let j = and₃ (ltZ (r .start) (r .end)) (ok v) m h in
-    Re.cons (back (r .state) e (j .1)) (tags-behind (r .track) (r .end) v rs p (j .2))
+    Re.cons (back (r .state) e (j .1)) (stored-behind (r .track) (r .end) v rs p (j .2))
 
 -- ---- runs that keep the rules, as a flat list
 
-enc-from : (rs : List Four) (p : Point ℤ) (u : ℕ) → From lx OK (Span ltZ) p u (runs rs) → Tags rs → enc rs ≡ encode (map toRec (runs rs))
+enc-from : (rs : List Four) (p : Point ℤ) (u : ℕ) → From lx OK (Span ltZ) p u (runs rs) → Stored rs → enc rs ≡ encode (map toRec (runs rs))
 enc-from [] p u f t = refl
 enc-from (r ∷ rs) p u (next g w o f) (Re.cons e t) =
     let i = enc-from rs (pt (r .track) (r .end)) (ofZ w16 (r .state)) f t in
     λ x. r .track ∷ r .start ∷ r .end ∷ sym (there (ofZ w16 (r .state)) (r .state) (o .is) e) x ∷ i x
 
-enc-keeps : (rs : List Four) → K (runs rs) → Tags rs → enc rs ≡ encode (map toRec (runs rs))
+enc-keeps : (rs : List Four) → K (runs rs) → Stored rs → enc rs ≡ encode (map toRec (runs rs))
 enc-keeps [] k t = refl
 enc-keeps (r ∷ rs) (first w o f) (Re.cons e t) =
     let i = enc-from rs (pt (r .track) (r .end)) (ofZ w16 (r .state)) f t in
@@ -152,8 +152,8 @@ module _ {l : List ℤ} {used : ℕ} {t₁ t₂ a b s : ℤ} (q : Asked l used t
   pub keep : K A
   keep = subst K (sym runs-is) (Gr.to-line ltZ int-linear ok refl (recs used l) keeps-l)
 
-  tags : Tags (fours used l)
-  tags = tags-are (fours used l) (holds-plain (q .holds)) (ap keeps (sym (recs-fours used l)) ∙ keeps-l)
+  stored : Stored (fours used l)
+  stored = stored-are (fours used l) (holds-plain (q .holds)) (ap keeps (sym (recs-fours used l)) ∙ keeps-l)
 
   abbrev R : List (Rec ℤ)
   R = paintList (areaOf t₁ t₂ a b s) (recs used l)
@@ -170,7 +170,7 @@ module _ {l : List ℤ} {used : ℕ} {t₁ t₂ a b s : ℤ} (q : Asked l used t
 
   -- the first sweep
   pub ready-one : Ready l used used
-  ready-one = record { laid = record { fits = holds-room (q .holds); zeros = holds-zeros (q .holds) }; low = omega arith; room = holds-room (q .holds); keep = keep; tags = tags }
+  ready-one = record { laid = record { fits = holds-room (q .holds); zeros = holds-zeros (q .holds) }; low = omega arith; room = holds-room (q .holds); keep = keep; stored = stored }
 
   A-long : length A ≡ used
   A-long = length-runs (fours used l) ∙ length-fours used l
@@ -204,7 +204,7 @@ module _ {l : List ℤ} {used : ℕ} {t₁ t₂ a b s : ℤ} (q : Asked l used t
       low = omega (arith, more a b (ofZ w16 s) (good .less) (good .state) us (dis-span t₁ t₂) kx gx, ap length ends, n-is, total-of);
       room = omega (arith, p .long);
       keep = kx;
-      tags = p .tags;
+      stored = p .stored;
     }
 
     pub roomy-two : Roomy true a b s t₁ t₂ total (runs (fours n x))
@@ -218,7 +218,7 @@ module _ {l : List ℤ} {used : ℕ} {t₁ t₂ a b s : ℤ} (q : Asked l used t
     done {y} {m} w =
         let v : runs (fours m y) ≡ PT a b (ofZ w16 s) us A = w .is ∙ sw-all a b (ofZ w16 s) (good .less) (good .state) us (runs (fours n x)) ∙ ends in
         let ky : K (runs (fours m y)) = subst K (sym v) (PT-keep a b (ofZ w16 s) (good .less) (good .state) us keep) in
-        let c : enc (fours m y) ≡ encode R = enc-keeps (fours m y) ky (w .tags) ∙ ap (λ (z : List Rn). encode (map toRec z)) v ∙ sym (ap encode list-is) in
+        let c : enc (fours m y) ≡ encode R = enc-keeps (fours m y) ky (w .stored) ∙ ap (λ (z : List Rn). encode (map toRec z)) v ∙ sym (ap encode list-is) in
         let d : m ≡ length (PT a b (ofZ w16 s) us A) = sym (length-runs (fours m y) ∙ length-fours m y) ∙ ap length v in
         let ly : length y ≡ length l = w .long ∙ p .long in
         let z : length y - 4 * length (fours m y) ≡ length l - length (encode R) = omega (arith, length-enc (fours m y), ap length c) in

@@ -1,6 +1,6 @@
--- A record of the flat list (track, start, end, state) as a run of the reading order, and the places where a track's paint cuts a list.
+-- The inner words of painting one track: which fours of a list it reaches, and what they become. None of the promises rests on these words.
 use mathlib.Core.Path.{_≡_}
-use mathlib.Core.Bool.{Bool, true, false, not, cond}
+use mathlib.Core.Bool.{Bool, false, not, cond}
 use mathlib.Core.List.{List, [], _∷_, _++_, map}
 use Prim.Native.Nat.{ℕ, zero, suc, _+_, _-_, _*_, _<_, _≤_}
 use lib.IntN.{ℤ, pos}
@@ -9,11 +9,11 @@ use lib.Dec.{eqb}
 use lib.Signed.{ltZ}
 use mir.Syntax.{w16}
 use mir.Val.{toZ, ofZ}
-use Rattle.intervals.specs.Paint.{Run, run, Point, pt}
+use Rattle.intervals.specs.Paint.{run, pt}
 use Rattle.flat_records.specs.Fours.{Four, fourAt, fours}
 use Rattle.intervals.specs.Cut.{gapb, new, lx, Rn}
 
--- a state is told apart by its bits, as code tells it
+-- the four numbers of a record as a run of the reading order. A state is told apart by its bits, as code tells it
 abbrev pub runOf : Four → Rn
 runOf r = run (pt (r .track) (r .start)) (pt (r .track) (r .end)) (ofZ w16 (r .state))
 
@@ -51,28 +51,29 @@ endOf d v b s = cond (ltZ b d) (cond (eqb s v) d b) b
 abbrev pub rightOf : ℤ → ℕ → ℤ → ℕ → Bool
 rightOf d v b s = cond (ltZ b d) (not (eqb s v)) false
 
--- the states are as code stores them
-pub data Tags : List Four → Type 0 where
-  nil : Tags []
-  cons : {r : Four} {rs : List Four} → toZ w16 (ofZ w16 (r .state)) ≡ r .state → Tags rs → Tags (r ∷ rs)
+-- each state is what its bits say, as is so of every number that code stores
+pub data Stored : List Four → Type 0 where
+  nil : Stored []
+  cons : {r : Four} {rs : List Four} → toZ w16 (ofZ w16 (r .state)) ≡ r .state → Stored rs → Stored (r ∷ rs)
 
 -- all are on track t
-pub data Lo (t : ℤ) : List Four → Type 0 where
-  nil : Lo t []
-  cons : {r : Four} {rs : List Four} → r .track ≡ t → Lo t rs → Lo t (r ∷ rs)
+pub data AllOn (t : ℤ) : List Four → Type 0 where
+  nil : AllOn t []
+  cons : {r : Four} {rs : List Four} → r .track ≡ t → AllOn t rs → AllOn t (r ∷ rs)
 
+-- `put` is what becomes of `mid`, all that the paint reaches
 pub record Pieced (t a b : ℤ) (s : ℕ) (mid put : List Four) : Type 0 where
   pub is : runs put ≡ new lx (pt t a) (pt t b) s (runs mid)
-  pub tags : Tags put
-  pub los : Lo t put
+  pub stored : Stored put
+  pub placed : AllOn t put
 
 -- the same of numbers: the painted run between what is left on both sides
 pub record Built (t c v d z a b s : ℤ) (put : List Four) : Type 0 where
   pub is : runs put ≡ cond (leftOf c (ofZ w16 v) a (ofZ w16 s)) (run (pt t c) (pt t a) (ofZ w16 v) ∷ []) []
       ++ (run (pt t (startOf c (ofZ w16 v) a (ofZ w16 s))) (pt t (endOf d (ofZ w16 z) b (ofZ w16 s))) (ofZ w16 s)
       ∷ cond (rightOf d (ofZ w16 z) b (ofZ w16 s)) (run (pt t b) (pt t d) (ofZ w16 z) ∷ []) [])
-  pub tags : Tags put
-  pub los : Lo t put
+  pub stored : Stored put
+  pub placed : AllOn t put
 
 -- the first and the last of the records i..j are on track t
 pub record OnTrack (l : List ℤ) (i j : ℕ) (t : ℤ) : Type 0 where

@@ -1,8 +1,8 @@
 // Changing a row list or a column list: counting the records that a paint leaves, painting, clearing. A list is changed in place, without
-// scratch memory, in time in proportion to the records behind the area's first track and to the tracks crossed.
-pub mod pieces;
-pub mod reach;
-pub mod sweeps;
+// scratch memory, in time in proportion to its records and to the tracks crossed; where the area lies behind the last record, to its tracks.
+mod pieces;
+mod reach;
+mod sweeps;
 
 ghost use mathlib.Core.Path.{_≡_};
 ghost use mathlib.Core.Bool.{true};
@@ -13,6 +13,7 @@ ghost use Rattle.intervals.specs.OverInt.{fit, flat, paintList};
 ghost use Rattle.intervals.specs.Lists.{recs, Holds};
 ghost use Rattle.cell_painting.specs.Painting.{areaOf};
 use crate::pieces::cut_track;
+use crate::reach::records_behind;
 use crate::sweeps::sweep;
 use flat_records::wipe;
 
@@ -31,7 +32,8 @@ pub fn count_painted(
     ensures { λ r. ⌜ r ≡ length (paintList (areaOf «track_start» «track_end» start end state) (recs used (now (list .entry)))) ⌝ }
 {
     let mut track = track_end;
-    let mut left = used;
+    let behind = records_behind(list, used, track_end);
+    let mut left = used - behind;
     let mut more: usize = 0;
     let mut less: usize = 0;
     while track_start < track {
@@ -66,9 +68,11 @@ pub fn repaint(
     ensures { λ r. ⌜ r ≡ length (paintList (areaOf «track_start» «track_end» start end state) (recs used (now (list .entry)))) ⌝ }
     ensures { λ _. ⌜ now (list .exit) ≡ flat (length (now (list .entry))) (paintList (areaOf «track_start» «track_end» start end state) (recs used (now (list .entry)))) ⌝ }
 {
+    let behind = records_behind(list, used, track_end);
     let n = sweep(
         list,
         used,
+        behind,
         used,
         track_start,
         track_end,
@@ -80,6 +84,7 @@ pub fn repaint(
     sweep(
         list,
         n,
+        behind,
         total,
         track_start,
         track_end,

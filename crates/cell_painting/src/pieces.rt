@@ -44,6 +44,7 @@ fn end_of(d: i16, v: i16, b: i16, s: i16) -> i16
     b
 }
 
+// Whether something is left behind it.
 fn right_of(d: i16, v: i16, b: i16, s: i16) -> bool
     ensures { λ r. ⌜ r ≡ rightOf d (ofZ w16 v) b (ofZ w16 s) ⌝ }
 {
@@ -54,7 +55,7 @@ fn right_of(d: i16, v: i16, b: i16, s: i16) -> bool
 }
 
 // At most three records, the first `new` of `put`.
-pub struct Piece {
+struct Piece {
     pub put: [i16; 12],
     pub new: usize,
 }
@@ -90,7 +91,7 @@ fn build(t: i16, c: i16, v: i16, d: i16, z: i16, a: i16, b: i16, s: i16) -> Piec
 }
 
 // What becomes of the records i..j, which are those that the paint of track t reaches.
-pub fn cut_out(list: &[i16], i: usize, j: usize, t: i16, a: i16, b: i16, s: i16) -> Piece
+fn cut_out(list: &[i16], i: usize, j: usize, t: i16, a: i16, b: i16, s: i16) -> Piece
     requires { ⌜ (i ≤ j) × (4 * j ≤ length (now list)) ⌝ }
     requires { ⌜ OnTrack (now list) i j t ⌝ }
     ensures { λ r. ⌜ (r .new ≤ 3) × (length (r .put) ≡ 12) × Pieced t a b (ofZ w16 s) (fours (j - i) (drop (4 * i) (now (list .entry)))) (fours (r .new) (r .put)) ⌝ }

@@ -1,4 +1,4 @@
-// Which records of a list the paint of one track reaches: two tests and two searches from behind.
+// Which records of a list the paint of one track reaches: all but those that are early or late. Both are searched for from behind.
 ghost use mathlib.Core.Path.{_≡_};
 ghost use Prim.Native.Nat.{_+_, _-_, _*_, _≤_, _<_};
 ghost use lib.ListN.{length};
@@ -9,9 +9,12 @@ ghost use Rattle.flat_records.specs.Fours.{fourAt};
 ghost use Rattle.intervals.specs.Cut.{gapb, lx};
 ghost use Rattle.cell_painting.specs.Reach.{earlyR, lateR, beforeLate, afterEarly};
 ghost use mathlib.Core.Bool.{true, false};
+ghost use Rattle.intervals.specs.Lists.{Holds};
+ghost use Rattle.cell_painting.specs.Passes.{Tail};
+use cell_occupancy::tracks::lower;
 
 // Reading order: by track, then position.
-pub fn before(t: i16, p: i16, u: i16, q: i16) -> bool
+fn before(t: i16, p: i16, u: i16, q: i16) -> bool
     ensures { λ r. ⌜ r ≡ lx (pt t p) (pt u q) ⌝ }
 {
     if t < u {
@@ -24,7 +27,7 @@ pub fn before(t: i16, p: i16, u: i16, q: i16) -> bool
 }
 
 // Whether a run that ends at (t, p) with state v may stand before one that starts at (u, q) with state s: it ends before, or touches and differs.
-pub fn gap(t: i16, p: i16, v: i16, u: i16, q: i16, s: i16) -> bool
+fn gap(t: i16, p: i16, v: i16, u: i16, q: i16, s: i16) -> bool
     ensures { λ r. ⌜ r ≡ gapb lx (pt t p) (ofZ w16 v) (pt u q) (ofZ w16 s) ⌝ }
 {
     if before(t, p, u, q) {
@@ -36,7 +39,8 @@ pub fn gap(t: i16, p: i16, v: i16, u: i16, q: i16, s: i16) -> bool
     v != s
 }
 
-pub fn early(list: &[i16], at: usize, t: i16, a: i16, s: i16) -> bool
+// The record at `at` ends before the lines from a on of track t, and may stand there beside them.
+fn early(list: &[i16], at: usize, t: i16, a: i16, s: i16) -> bool
     requires { ⌜ at + 4 ≤ length (now list) ⌝ }
     ensures { λ r. ⌜ r ≡ earlyR (fourAt (now (list .entry)) at) t a (ofZ w16 s) ⌝ }
 {
@@ -46,7 +50,8 @@ pub fn early(list: &[i16], at: usize, t: i16, a: i16, s: i16) -> bool
     gap(u, d, v, t, a, s)
 }
 
-pub fn late(list: &[i16], at: usize, t: i16, b: i16, s: i16) -> bool
+// The record at `at` starts behind the lines to b of track t, and may stand there beside them.
+fn late(list: &[i16], at: usize, t: i16, b: i16, s: i16) -> bool
     requires { ⌜ at + 4 ≤ length (now list) ⌝ }
     ensures { λ r. ⌜ r ≡ lateR (fourAt (now (list .entry)) at) t b (ofZ w16 s) ⌝ }
 {
@@ -56,6 +61,7 @@ pub fn late(list: &[i16], at: usize, t: i16, b: i16, s: i16) -> bool
     gap(t, b, s, u, c, v)
 }
 
+// How many of the first n records there are before those at the end that are late.
 pub fn before_late(list: &[i16], n: usize, t: i16, b: i16, s: i16) -> usize
     requires { ⌜ 4 * n ≤ length (now list) ⌝ }
     ensures { λ r. ⌜ r ≡ beforeLate (now (list .entry)) t b (ofZ w16 s) n ⌝ }
@@ -71,6 +77,7 @@ pub fn before_late(list: &[i16], n: usize, t: i16, b: i16, s: i16) -> usize
     0
 }
 
+// How many of the first n records there are up to the last that is early.
 pub fn after_early(list: &[i16], n: usize, t: i16, a: i16, s: i16) -> usize
     requires { ⌜ 4 * n ≤ length (now list) ⌝ }
     ensures { λ r. ⌜ r ≡ afterEarly (now (list .entry)) t a (ofZ w16 s) n ⌝ }
@@ -84,4 +91,14 @@ pub fn after_early(list: &[i16], n: usize, t: i16, a: i16, s: i16) -> usize
         }
     }
     0
+}
+
+// How many records lie on tracks from `track` on: they are the last ones, and found by halving.
+pub fn records_behind(list: &[i16], used: usize, track: i16) -> usize
+    requires { ⌜ Holds (now list) used ⌝ }
+    ensures { λ r. ⌜ Tail (now (list .entry)) used r track ⌝ }
+{
+    let x = track as i32;
+    let k = lower(list, 0, used, x);
+    used - k
 }

@@ -13,7 +13,7 @@ ghost use mathlib.Core.Bool.{true, _||_};
 ghost use lib.Dec.{leb};
 ghost use lib.Seq.{paste};
 ghost use Rattle.intervals.proofs.Split.{Late};
-ghost use Rattle.cell_painting.specs.Passes.{Good, Gapped, Stepped, stepped, held, Ready, Roomy, Swept};
+ghost use Rattle.cell_painting.specs.Passes.{Good, Gapped, Stepped, stepped, held, Ready, Roomy, Swept, Tail};
 use crate::pieces::cut_track;
 use flat_records::move_down;
 use flat_records::move_up;
@@ -43,7 +43,7 @@ fn lift(list: &mut [i16], from: usize, used: usize, by: usize)
 }
 
 // `move_down`, likewise.
-fn lower(list: &mut [i16], from: usize, used: usize, by: usize)
+fn sink(list: &mut [i16], from: usize, used: usize, by: usize)
     requires { ⌜ by ≤ from ⌝ }
     requires { ⌜ from ≤ used ⌝ }
     requires { ⌜ used ≤ length (now list) ⌝ }
@@ -56,13 +56,13 @@ fn lower(list: &mut [i16], from: usize, used: usize, by: usize)
 }
 
 // The list holds the records 0..r, a gap, and the records w..top.
-pub struct Place {
+struct Place {
     pub r: usize,
     pub w: usize,
 }
 
 // One track of a sweep: the records behind the paint go up behind the gap, those that it reaches become what they become, and go up too.
-pub fn step(
+fn step(
     list: &mut [i16],
     r: usize,
     w: usize,
@@ -93,10 +93,12 @@ pub fn step(
     Place { r: j, w: v }
 }
 
-// All tracks of the area, from the last to the first; with `all` false those on which the records get no more. Then the gap is closed.
+// All tracks of the area, from the last to the first; with `all` false those on which the records get no more. Then the gap is closed. The last
+// `behind` records lie behind the area, and are moved as one.
 pub fn sweep(
     list: &mut [i16],
     used: usize,
+    behind: usize,
     top: usize,
     t1: i16,
     t2: i16,
@@ -109,11 +111,14 @@ pub fn sweep(
     requires { ⌜ Good a b s ⌝ }
     requires { ⌜ ltZ t1 t2 ≡ true ⌝ }
     requires { ⌜ Roomy all a b s t1 t2 top (runs (fours used (now list))) ⌝ }
+    requires { ⌜ Tail (now list) used behind t2 ⌝ }
     ensures { λ n. ⌜ Swept all a b s t1 t2 (now (list .entry)) used (now (list .exit)) n ⌝ }
+    ensures { λ n. ⌜ Tail (now (list .exit)) n behind t2 ⌝ }
 {
-    let mut r = used;
-    let mut w = top;
+    let mut r = used - behind;
+    let mut w = top - behind;
     let mut t = t2;
+    lift(list, 4 * r, 4 * used, 4 * (top - used));
     while t1 < t {
         t -= 1;
         let g = step(list, r, w, top, t, a, b, s, all);
@@ -121,7 +126,7 @@ pub fn sweep(
         w = g.w;
     }
     let n = r + (top - w);
-    lower(list, 4 * w, 4 * top, 4 * (w - r));
+    sink(list, 4 * w, 4 * top, 4 * (w - r));
     wipe(list, 4 * n, 4 * top);
     n
 }

@@ -3,7 +3,6 @@ ghost use mathlib.Core.Path.{_≡_};
 ghost use Rattle.cell_occupancy.specs.Calls.{recordsOfTrack, named, Stands};
 ghost use Rattle.hoarbale.specs.Lists.{collisionAnswer, occupiedAnswer};
 ghost use Rattle.hoarbale_c.specs.Lists.{ofJump};
-
 use hoarbale::lists::JumpAnswer;
 
 #[repr(C)]
@@ -55,7 +54,11 @@ pub extern "C" fn hoarbale_collision_jump(
 }
 
 #[no_mangle]
-pub extern "C" fn hoarbale_occupied_track_jump(list: &[i16], track_start: i16, track_end: i16) -> NextLine
+pub extern "C" fn hoarbale_occupied_track_jump(
+    list: &[i16],
+    track_start: i16,
+    track_end: i16,
+) -> NextLine
     ensures { λ r. ⌜ r ≡ ofJump (occupiedAnswer (now (list .entry)) «track_start» «track_end») ⌝ }
 {
     told(hoarbale::lists::occupied_track_jump(list, track_start, track_end))
@@ -63,7 +66,12 @@ pub extern "C" fn hoarbale_occupied_track_jump(list: &[i16], track_start: i16, t
 
 // Where the part stands that `records_of_track` gives; at 0 where it is empty.
 #[no_mangle]
-pub extern "C" fn hoarbale_records_of_track(rows: &[i16], columns: &[i16], axis: u8, track: i16) -> PartOfList
+pub extern "C" fn hoarbale_records_of_track(
+    rows: &[i16],
+    columns: &[i16],
+    axis: u8,
+    track: i16,
+) -> PartOfList
     ensures { λ r. ⌜ Stands (named (now (rows .entry)) (now (columns .entry)) axis) track (recordsOfTrack (now (rows .entry)) (now (columns .entry)) axis track) (r .start) (r .length) ⌝ }
 {
     let place = cell_occupancy::tracks::track_place(rows, columns, axis, track);

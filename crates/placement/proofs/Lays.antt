@@ -37,7 +37,7 @@ use Rattle.placement.specs.declared.Matrix.{Matrix}
 use Rattle.placement.specs.declared.Laid.{Laid}
 use Rattle.placement.specs.declared.Laid.the-variants.{On, Short}
 use Rattle.placement.specs.Laying.{Laying, Fits, Full, onPrimary, onSecondary, refusal, refusalOf, shortOf, markOf, answerFive, grownMatrix}
-use Rattle.placement.specs.Ready.{settingFor, Ready, Stopped, AfterItem}
+use Rattle.placement.specs.Ready.{settingFor, Ready, Stopped, AfterItem, Items}
 
 -- ---- what stands for a board holds its records
 
@@ -67,7 +67,6 @@ module _ {columns : Bool} {room : Both ℕ} {old : List ℤ} {b : Board} {m : Ma
 
   pub secondary-length : length secondary ≡ on y room
   secondary-length = rw (k .secondary-list) (Fl.length-flat digits digit-laws (on y room) (recordsOn y (b .tiles)) (k .secondary-room))
-
 
 -- ---- the tile of a choice, by primary and secondary lines
 
@@ -197,7 +196,7 @@ module _ (columns dense : Bool) (room : Both ℕ) (old : List ℤ) (b : Board) (
         secondary-room = rw (← painted-secondary, ← (secondary-length k)) v;
         primary-list = q .onto-primary ∙ (λ j. flat (primary-length k j) (painted-primary j));
         secondary-list = q .onto-secondary ∙ (λ j. flat (secondary-length k j) (painted-secondary j));
-        answered = q .answered ∙ (λ j. sets (k .answered j) (5 * i) (sym (five p s i h columns e) j)) ∙ sym (written-laid i h b old)
+        answered = q .answered ∙ (λ j. sets (k .answered j) (5 * i) (sym (five p s i h columns e) j)) ∙ sym (written-laid i h b old);
       }
 
   -- LAYING ONE TILE on the lists is `put` on the board
@@ -207,13 +206,17 @@ module _ (columns dense : Bool) (room : Both ℕ) (old : List ℤ) (b : Board) (
       let v = roomy columns short-p short-s i t (q .room) in
       subst (λ (u : Run). AfterItem columns room old i u r a′ p′ s′) (sym (put-is ∙ v .0)) (grownMatrix columns p s state (h .flags) m i answers primary secondary, (q .result, ready q (v .1)))
   put-laid {r} {a′} {p′} {s′} (inr q) =
-      subst (λ (u : Run). AfterItem columns room old i u r a′ p′ s′) (sym (put-is ∙ crowded columns short-p short-s i t (q .number) (q .room) (q .some)))
-      (q .result,
-      (refl, record {
-        answers-long = ap length (q .answered ∙ k .answered) ∙ written-length (b .tiles) old;
-        primary-long = ap length (q .onto-primary) ∙ primary-length k;
-        secondary-long = ap length (q .onto-secondary) ∙ secondary-length k
-      }))
+      subst (λ (u : Run). AfterItem columns room old i u r a′ p′ s′) (sym (put-is ∙ crowded columns short-p short-s i t (q .number) (q .room) (q .some))) (
+        q .result,
+        (
+          refl,
+          record {
+            answers-long = ap length (q .answered ∙ k .answered) ∙ written-length (b .tiles) old;
+            primary-long = ap length (q .onto-primary) ∙ primary-length k;
+            secondary-long = ap length (q .onto-secondary) ∙ secondary-length k;
+          },
+        ),
+      )
 
 -- ---- lengths stay
 
@@ -241,7 +244,7 @@ laying-long {columns} {p} {s} {state} {flags} {m} {i} {answers} {primary} {secon
     record {
       answers-stay = ap length (q .answered) ∙ length-sets answers (5 * i) (answerFive (laid (axisOf columns) (limited p) (limited s)) (markOf p s flags));
       primary-stays = ap length (q .onto-primary) ∙ fits-long (length primary) ps (v .0);
-      secondary-stays = ap length (q .onto-secondary) ∙ fits-long (length secondary) ss (v .1)
+      secondary-stays = ap length (q .onto-secondary) ∙ fits-long (length secondary) ss (v .1);
     }
 laying-long (inr q) = record { answers-stay = ap length (q .answered); primary-stays = ap length (q .onto-primary); secondary-stays = ap length (q .onto-secondary) }
 
@@ -269,3 +272,7 @@ sound-secondary {columns} k = rw (k .secondary-counts) (sound-off columns (k .ke
 pub other-axis : (c : Bool) → axisOf (not c) ≡ other (axisOf c)
 other-axis true = refl
 other-axis false = refl
+
+-- the first items of good items
+pub items-upto : {l : List ℤ} {n i : ℕ} → Items l n → i < n → Items l (i + 1)
+items-upto {l} {n} {i} g h = record { long = omega (arith, g .long); good = λ j k. g .good j (omega arith) }

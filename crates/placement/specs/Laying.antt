@@ -57,7 +57,7 @@ module _ (columns : Bool) (p s : Lines) (state : ℤ) (flags : ℕ) (m : Matrix)
         primary = grown (m .primary) (limited p);
         secondary = grown (m .secondary) (limited s);
         «primary_used» = length onPrimary;
-        «secondary_used» = length onSecondary
+        «secondary_used» = length onSecondary;
       }
 
   -- there is room: the tile is laid

@@ -9,7 +9,6 @@ ghost use Rattle.walk.specs.Axis.{Both};
 ghost use Rattle.walk.specs.Walk.{Board, step1, each};
 ghost use Rattle.request.proofs.Items.{queued};
 ghost use Rattle.placement.specs.Ready.{settingFor, Ready, Stands, AfterItem, AfterStep, Items, primaryOf, secondaryOf};
-
 use crate::Laid;
 use crate::Matrix;
 use crate::Stepped;

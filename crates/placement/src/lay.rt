@@ -17,12 +17,11 @@ ghost use Rattle.walk.specs.Axis.{laid};
 ghost use Rattle.walk.specs.Walk.{bit};
 ghost use Rattle.request.specs.Items.{axisOf};
 ghost use Rattle.placement.specs.Laying.{Laying, answerFive, refusalOf};
-
+use crate::Laid;
+use crate::Matrix;
 use cell_painting::count_painted;
 use cell_painting::repaint;
 use coordinates::Lines;
-use crate::Laid;
-use crate::Matrix;
 
 // The mark: the step's flags, and bit 1 where limiting changed a line.
 fn mark_of(flags: u16, p_pressed: bool, s_pressed: bool) -> u16
@@ -164,7 +163,14 @@ pub fn lay(
         return Laid::Short(refusal);
     }
     paint_tile(primary, primary_used, p_lines, s_lines, state, on_primary);
-    paint_tile(secondary, secondary_used, s_lines, p_lines, state, on_secondary);
+    paint_tile(
+        secondary,
+        secondary_used,
+        s_lines,
+        p_lines,
+        state,
+        on_secondary,
+    );
     put_answer(answers, i, columns, p_lines, s_lines, mark);
     let p_counts = matrix.primary;
     let s_counts = matrix.secondary;

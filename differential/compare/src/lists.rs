@@ -1,7 +1,7 @@
 //! Series of calls on one list, beside the original's matrix and the plain reading.
 use crate::random::Random;
 use crate::sides::Ours;
-use crate::tally::{caught, Tally};
+use crate::tally::{caught, shrink, Tally};
 use original::{Axis, Matrix};
 
 type Span = (i16, i16);
@@ -46,16 +46,17 @@ impl std::fmt::Display for Series {
     }
 }
 
-/// How many calls of a series were compared, or what differs.
-fn judge(series: &Series, ours: Ours) -> Result<u64, String> {
-    let mut compared = 0;
+/// The numbers that the paints gave (0: painted), or what differs.
+fn judge(series: &Series, ours: Ours) -> Result<Vec<u8>, String> {
+    let mut given = Vec::new();
     let mut list = vec![0; 4 * series.places];
     let mut matrix = Matrix::new(series.counts[0], series.counts[1]);
     for call in &series.calls {
         let [a, b, c, d, e, f] = call.n;
         match call.kind {
             Kind::Paint => {
-                if paint(&mut list, (a, b), (c, d), e, ours)? == 0 {
+                given.push(paint(&mut list, (a, b), (c, d), e, ours)?);
+                if given.last() == Some(&0) {
                     let axis = if series.rows { Axis::Horizontal } else { Axis::Vertical };
                     caught("original", || matrix.mark_area_as(axis, (c, d), (a, b), e as u8))?;
                     corners(series.rows, &list, &matrix, (a, b), (c, d), ours)?;
@@ -67,22 +68,23 @@ fn judge(series: &Series, ours: Ours) -> Result<u64, String> {
             Kind::Records => records(&list, a, b, ours)?,
             Kind::Damage => {
                 let mut damaged = list.clone();
-                if let Some(number) = damaged.get_mut(e as usize) {
+                // Counted round the used places and one more, where a changed number matters.
+                let used = list.chunks(4).filter(|record| record[3] != 0).count();
+                if let Some(number) = damaged.get_mut(e as usize % (4 * used + 4)) {
                     *number = f;
                 }
-                every_call(&damaged, (a, b), (c, d), ours)?;
+                given.push(every_call(&damaged, (a, b), (c, d), ours)?);
             }
             Kind::Length => {
                 // A negative number stands for the shortest length that is too long.
                 let length = if e < 0 { plain::LONGEST_LIST + 4 } else { e as usize };
                 let mut other = list.clone();
                 other.resize(length, 0);
-                every_call(&other, (a, b), (c, d), ours)?;
+                given.push(every_call(&other, (a, b), (c, d), ours)?);
             }
         }
-        compared += 1;
     }
-    Ok(compared)
+    Ok(given)
 }
 
 fn same<T: PartialEq + std::fmt::Debug>(call: &str, plain: T, side: &str, other: Option<T>) -> Result<(), String> {
@@ -167,14 +169,14 @@ pub fn states(rows: bool, list: &[i16], matrix: &Matrix) -> Result<(), String> {
     Ok(())
 }
 
-fn every_call(list: &[i16], tracks: Span, lines: Span, ours: Ours) -> Result<(), String> {
+fn every_call(list: &[i16], tracks: Span, lines: Span, ours: Ours) -> Result<u8, String> {
     let plain = plain::collision_jump(list, tracks, lines);
     same("collision jump", plain, "ours", caught("ours", || ours.collision_jump(list, tracks, lines))?)?;
     let plain = plain::occupied_track_jump(list, tracks);
     same("occupied-track jump", plain, "ours", caught("ours", || ours.occupied_track_jump(list, tracks))?)?;
     records(list, 0, tracks.0, ours)?;
     records(list, 1, tracks.0, ours)?;
-    paint(&mut list.to_vec(), tracks, lines, 2, ours).map(|_| ())
+    paint(&mut list.to_vec(), tracks, lines, 2, ours)
 }
 
 /// Where a series' lines lie.
@@ -225,10 +227,11 @@ fn call(random: &mut Random, tracks: Lie, lines: Lie, places: usize) -> Call {
         }
         55..=74 => (Kind::Jump, 0, 0),
         75..=84 => (Kind::TrackJump, 0, 0),
-        85..=91 => (Kind::Records, 0, 0),
-        92..=97 => {
+        85..=89 => (Kind::Records, 0, 0),
+        90..=97 => {
             let near = random.within(-2, 12);
-            let number = random.pick(&[near, near, near, -10001, -10000, 9999, 10000, 10001, 32767, -32768]);
+            let number =
+                random.pick(&[near, near, near, near, near, 1, 2, -10001, -10000, 9999, 10000, 10001, 32767, -32768]);
             (Kind::Damage, random.below(4 * places as u64 + 1) as i32, number)
         }
         _ if random.one_in(400) => (Kind::Length, -1, 0),
@@ -268,36 +271,31 @@ pub fn smaller(number: i16) -> impl Iterator<Item = i16> {
     [0, number / 2, number - number.signum()].into_iter().filter(move |&less| less != number)
 }
 
-/// Makes a differing series as small as single changes can.
-fn shrink(mut series: Series, ours: Ours) -> Series {
-    loop {
-        let mut tries: Vec<Series> = Vec::new();
-        for at in 0..series.calls.len() {
-            let mut less = series.clone();
-            less.calls.remove(at);
-            tries.push(less);
-        }
-        for at in 0..series.calls.len() {
-            for number in 0..6 {
-                for value in smaller(series.calls[at].n[number]) {
-                    let mut less = series.clone();
-                    less.calls[at].n[number] = value;
-                    tries.push(less);
-                }
+/// The series that single changes make of one.
+fn tries(series: &Series) -> Vec<Series> {
+    let mut tries: Vec<Series> = Vec::new();
+    for at in 0..series.calls.len() {
+        let mut less = series.clone();
+        less.calls.remove(at);
+        tries.push(less);
+    }
+    for at in 0..series.calls.len() {
+        for number in 0..6 {
+            for value in smaller(series.calls[at].n[number]) {
+                let mut less = series.clone();
+                less.calls[at].n[number] = value;
+                tries.push(less);
             }
         }
-        if series.places > 0 {
-            tries.push(Series { places: series.places / 2, ..series.clone() });
-            tries.push(Series { places: series.places - 1, ..series.clone() });
-        }
-        if series.counts != [[0; 3]; 2] {
-            tries.push(Series { counts: [[0; 3]; 2], ..series.clone() });
-        }
-        match tries.into_iter().find(|less| judge(less, ours).is_err()) {
-            Some(less) => series = less,
-            None => return series,
-        }
     }
+    if series.places > 0 {
+        tries.push(Series { places: series.places / 2, ..series.clone() });
+        tries.push(Series { places: series.places - 1, ..series.clone() });
+    }
+    if series.counts != [[0; 3]; 2] {
+        tries.push(Series { counts: [[0; 3]; 2], ..series.clone() });
+    }
+    tries
 }
 
 /// Compares at least `count` calls.
@@ -305,11 +303,12 @@ pub fn run(random: &mut Random, count: u64, ours: Ours) -> Tally {
     let mut tally = Tally::default();
     while tally.compared < count {
         let series = series(random);
+        tally.compared += series.calls.len() as u64;
         match judge(&series, ours) {
-            Ok(compared) => tally.compared += compared,
+            Ok(given) => given.iter().for_each(|&number| tally.given[number as usize] += 1),
             Err(_) => {
-                tally.compared += series.calls.len() as u64;
-                let small = if tally.shows() { shrink(series, ours) } else { series };
+                let small =
+                    if tally.shows() { shrink(series, tries, |less| judge(less, ours).is_err()) } else { series };
                 tally.differs(|| format!("{}: {small}", judge(&small, ours).unwrap_err()));
             }
         }

@@ -2,11 +2,11 @@
 use crate::lists::{smaller, states};
 use crate::random::Random;
 use crate::sides::Ours;
-use crate::tally::{caught, Tally};
+use crate::tally::{caught, shrink, Tally};
 use original::{Axis, Matrix};
 
 #[derive(Clone, Debug)]
-pub struct Request {
+struct Request {
     flow: u8,
     counts: [[u16; 3]; 2],
     items: Vec<i16>,
@@ -25,8 +25,8 @@ impl Buffers {
 
 type Answer = Result<[[u16; 3]; 2], (u8, u16)>;
 
-/// Nothing, or what differs.
-pub fn judge(request: &Request, ours: Ours) -> Result<(), String> {
+/// The number given (0: answered) and the marks, or what differs.
+fn judge(request: &Request, ours: Ours) -> Result<(u8, Vec<i16>), String> {
     let Request { flow, counts, ref items, lengths } = *request;
     let mut plain_left = Buffers::new(lengths);
     let [answers, rows, columns] = &mut plain_left.0;
@@ -54,7 +54,7 @@ pub fn judge(request: &Request, ours: Ours) -> Result<(), String> {
             (plain_left.0[0].chunks(5).take(items.len() / 6).map(|answer| answer[..4].to_vec()).collect(), grown)
         }
         Err((7 | 8, _)) => walked(request),
-        Err(_) => return Ok(()),
+        Err((number, _)) => return Ok((number, Vec::new())),
     };
     let good: Vec<[i16; 6]> = items.chunks(6).map(|item| item.try_into().expect("six numbers")).collect();
     let original = caught("original", || original::place(flow, counts[0], counts[1], &good))?;
@@ -67,8 +67,11 @@ pub fn judge(request: &Request, ours: Ours) -> Result<(), String> {
         return Err(format!("counts: plain {grown:?}, original {original_grown:?}"));
     }
     match plain {
-        Ok(_) => cells(&plain_left, &original.matrix),
-        Err(_) => Ok(()),
+        Ok(_) => {
+            cells(&plain_left, &original.matrix)?;
+            Ok((0, plain_left.0[0].chunks(5).take(good.len()).map(|answer| answer[4]).collect()))
+        }
+        Err((number, _)) => Ok((number, Vec::new())),
     }
 }
 
@@ -171,6 +174,7 @@ fn good(random: &mut Random, shape: &Shape) -> Request {
 /// Very many tiles that run past the end of the limited grid.
 fn many(random: &mut Random) -> Request {
     let flow = random.below(4) as u8;
+    let row_flow = flow == 0 || flow == 2;
     let explicit = random.within(0, 4) as u16;
     let along = random.within(0, 2);
     let longest = random.within(1, 12);
@@ -182,11 +186,11 @@ fn many(random: &mut Random) -> Request {
             _ => [1, random.within(1, 2) as i16, 0],
         };
         let secondary = [1, random.within(longest.min(5), longest) as i16, 0];
-        let item = if flow % 2 == 0 { [primary, secondary] } else { [secondary, primary] };
+        let item = if row_flow { [primary, secondary] } else { [secondary, primary] };
         items.extend(item.concat());
     }
     let (wide, none) = ([0, explicit, 0], [0; 3]);
-    let counts = if flow % 2 == 0 { [wide, none] } else { [none, wide] };
+    let counts = if row_flow { [wide, none] } else { [none, wide] };
     Request { flow, counts, items, lengths: [0; 3] }
 }
 
@@ -267,63 +271,67 @@ fn request(random: &mut Random) -> Request {
     request
 }
 
-/// Makes a differing request as small as single changes can.
-fn shrink(mut request: Request, ours: Ours) -> Request {
-    loop {
-        let mut tries: Vec<Request> = Vec::new();
-        let mut with = |change: &dyn Fn(&mut Request)| {
-            let mut less = request.clone();
-            change(&mut less);
-            tries.push(less);
-        };
-        let count = request.items.len() / 6;
-        // Halves first: a request of very many items is made small in few steps.
-        for at in [0, count / 2] {
-            if count > 8 {
-                with(&|less| drop(less.items.drain(6 * at..6 * (at + count / 2))));
-            }
-        }
-        for at in 0..count.min(40) {
-            with(&|less| drop(less.items.drain(6 * at..6 * at + 6)));
-        }
-        for at in 0..request.items.len().min(60) {
-            for value in smaller(request.items[at]) {
-                with(&|less| less.items[at] = value);
-            }
-        }
-        for at in 0..6 {
-            for value in smaller(request.counts[at / 3][at % 3].min(32767) as i16) {
-                with(&|less| less.counts[at / 3][at % 3] = value as u16);
-            }
-        }
-        for at in 0..3 {
-            let length = request.lengths[at];
-            for value in [0, length / 2, length.saturating_sub(4), length.saturating_sub(1)] {
-                if value < length {
-                    with(&|less| less.lengths[at] = value);
-                }
-            }
-        }
-        if request.flow > 0 {
-            with(&|less| less.flow -= 1);
-        }
-        match tries.into_iter().find(|less| judge(less, ours).is_err()) {
-            Some(less) => request = less,
-            None => return request,
+/// The requests that single changes make of one.
+fn tries(request: &Request) -> Vec<Request> {
+    let mut tries: Vec<Request> = Vec::new();
+    let mut with = |change: &dyn Fn(&mut Request)| {
+        let mut less = request.clone();
+        change(&mut less);
+        tries.push(less);
+    };
+    let count = request.items.len() / 6;
+    // Halves first: a request of very many items is made small in few steps.
+    for at in [0, count / 2] {
+        if count > 8 {
+            with(&|less| drop(less.items.drain(6 * at..6 * (at + count / 2))));
         }
     }
+    for at in 0..count.min(40) {
+        with(&|less| drop(less.items.drain(6 * at..6 * at + 6)));
+    }
+    for at in 0..request.items.len().min(60) {
+        for value in smaller(request.items[at]) {
+            with(&|less| less.items[at] = value);
+        }
+    }
+    for at in 0..6 {
+        for value in smaller(request.counts[at / 3][at % 3].min(32767) as i16) {
+            with(&|less| less.counts[at / 3][at % 3] = value as u16);
+        }
+    }
+    for at in 0..3 {
+        let length = request.lengths[at];
+        for value in [0, length / 2, length.saturating_sub(4), length.saturating_sub(1)] {
+            if value < length {
+                with(&|less| less.lengths[at] = value);
+            }
+        }
+    }
+    if request.flow > 0 {
+        with(&|less| less.flow -= 1);
+    }
+    tries
 }
 
 /// Compares `count` requests.
 pub fn run(random: &mut Random, count: u64, ours: Ours) -> Tally {
     let mut tally = Tally::default();
+    let mut marks = [0; 8];
     while tally.compared < count {
         let request = request(random);
         tally.compared += 1;
-        if judge(&request, ours).is_err() {
-            let small = if tally.shows() { shrink(request, ours) } else { request };
-            tally.differs(|| format!("{}: {small:?}", judge(&small, ours).unwrap_err()));
+        match judge(&request, ours) {
+            Ok((number, given)) => {
+                tally.given[number as usize] += 1;
+                given.iter().for_each(|&mark| marks[mark as usize] += 1);
+            }
+            Err(_) => {
+                let small =
+                    if tally.shows() { shrink(request, tries, |less| judge(less, ours).is_err()) } else { request };
+                tally.differs(|| format!("{}: {small:?}", judge(&small, ours).unwrap_err()));
+            }
         }
     }
+    tally.note = format!(", items by mark {marks:?}");
     tally
 }

@@ -20,7 +20,6 @@ macro_rules! ours {
     }};
 }
 
-#[cfg_attr(not(feature = "library"), allow(unused_variables))]
 #[cfg_attr(not(all(feature = "lists", feature = "placement")), allow(unused_variables))]
 impl Ours {
     pub fn origin_zero_line(self, css_line: i16, explicit: u16) -> Option<Result<i16, u8>> {

@@ -4,6 +4,9 @@
 pub struct Tally {
     pub compared: u64,
     pub differ: u64,
+    /// How often each number was given; 0 stands for an answer.
+    pub given: [u64; 13],
+    pub note: String,
 }
 
 /// Differences printed a part; the rest are counted only.
@@ -24,6 +27,29 @@ impl Tally {
 
     pub fn say(&self, part: &str, sides: &str) {
         println!("{part} ({sides}): compared {}, differ {}", self.compared, self.differ);
+        let given = self.given.iter().enumerate().filter(|(_, &times)| times > 0);
+        let given: Vec<String> = given.map(|(number, times)| format!("{number}: {times}")).collect();
+        if !given.is_empty() {
+            println!("    by number given {}{}", given.join(", "), self.note);
+        }
+    }
+}
+
+/// Makes a differing input smaller as long as a single change leaves a difference, for some seconds at most:
+/// inputs over the whole limited grid are slow to try.
+pub fn shrink<T>(mut input: T, tries: impl Fn(&T) -> Vec<T>, differs: impl Fn(&T) -> bool) -> T {
+    let begun = std::time::Instant::now();
+    'smaller: loop {
+        for less in tries(&input) {
+            if begun.elapsed().as_secs() >= 10 {
+                return input;
+            }
+            if differs(&less) {
+                input = less;
+                continue 'smaller;
+            }
+        }
+        return input;
     }
 }
 

@@ -2,10 +2,12 @@
 //! It serves as a third opinion, so it shares nothing with either side that it judges.
 mod board;
 mod cells;
+mod file;
 mod lines;
 mod lists;
 
 pub use board::{place, walk, Tile, Walk};
+pub use file::text_of_file;
 pub use lines::{counts_good, css_line, origin_zero_line, track_index};
 pub use lists::{collision_jump, occupied_track_jump, paint, records_of_track, rules_kept, state_at};
 

@@ -1,11 +1,8 @@
 -- `clear` meets its contract.
-use mathlib.Core.Path.{_≡_, refl, sym, ap, _∙_}
-use mathlib.Core.List.{List, [], _∷_, _++_, append-nil}
-use Prim.Native.Nat.{ℕ, _+_, _-_, _≤_}
+use Prim.Native.Nat.{_-_}
 use native.Mathlib.Omega.{arith}
-use lib.ListN.{length, take, drop, replicate}
-use lib.Seq.{paste}
-use lib.IntN.{ℤ, pos}
+use lib.ListN.{length}
+use lib.IntN.{pos}
 use borrow.Author.Needs.{needs}
 use Rattle.flat_records.proofs.Parts.{paste-whole}
 use Rattle.cell_painting.proofs.clear.Statement.{statement}

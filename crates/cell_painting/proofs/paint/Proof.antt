@@ -1,6 +1,6 @@
 -- `paint` meets its contract: it is refused just where the records that are counted outnumber the places.
 use mathlib.Core.Path.{_≡_, refl}
-use Prim.Native.Nat.{ℕ, _*_, _≤_, _<_}
+use Prim.Native.Nat.{_*_, _≤_}
 use native.Mathlib.Omega.{arith}
 use lib.ListN.{length}
 use Rattle.intervals.specs.OverInt.{paintList}

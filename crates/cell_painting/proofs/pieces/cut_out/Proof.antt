@@ -1,102 +1,77 @@
-use mathlib.Core.Path.{_≡_, refl, sym, ap, _∙_, subst}
+-- `cut_out` meets its contract.
+use mathlib.Core.Path.{refl}
 use mathlib.Core.List.{List}
-use Prim.Native.Nat.{ℕ, suc, _+_, _-_, _*_, _≤_, _<_}
+use Prim.Native.Nat.{_+_, _-_, _*_}
 use native.Mathlib.Omega.{arith}
-use lib.IntN.{ℤ, pos}
+use lib.IntN.{pos}
 use lib.ListN.{getD}
-use mir.Facts.{toZ-ofZ}
-use Rattle.flat_records.proofs.Parts.{same16}
-use Rattle.flat_records.specs.Fours.{fourAt, fours, Four}
+use Rattle.flat_records.specs.Fours.{fours, Four}
 use Rattle.cell_painting.specs.Reach.{Built}
 use Rattle.cell_painting.proofs.Build.{pieced, alone, plain}
 use borrow.Author.Needs.{needs}
 use Rattle.cell_painting.proofs.pieces.cut_out.Statement.{statement}
 use Rattle.cell_painting.proofs.pieces.cut_out.Tie as tie
-use Rattle.cell_painting.proofs.pieces.cut_out.Reads as reads
-use Rattle.cell_painting.proofs.pieces.cut_out.Lts as lts
-use Rattle.cell_painting.proofs.pieces.build.Reads as build-reads
 
--- src/lib.rt:178:9
 returns : tie.Need-returns
 returns c = let s = c .before in (omega arith, refl, alone (s .args .list .now) (s .args .i) (s .args .j) _ _ _ _ (s .fits .t) (s .fits .a) (s .fits .b) (s .fits .s) (omega arith))
 
--- src/lib.rt:183:18
 mul-c : tie.Need-mul-c
 mul-c c = search needs
 
--- src/lib.rt:183:18
 add-c : tie.Need-add-c
 add-c c = search needs
 
--- src/lib.rt:183:13
 mul-c-2 : tie.Need-mul-c-2
 mul-c-2 c = search needs
 
--- src/lib.rt:183:13
 shared-slice-copy-out-c : tie.Need-shared-slice-copy-out-c
 shared-slice-copy-out-c c = search needs
 
--- src/lib.rt:184:18
 mul-v : tie.Need-mul-v
 mul-v c = search needs
 
--- src/lib.rt:184:18
 add-v : tie.Need-add-v
 add-v c = search needs
 
--- src/lib.rt:184:13
 mul-v-2 : tie.Need-mul-v-2
 mul-v-2 c = search needs
 
--- src/lib.rt:184:13
 shared-slice-copy-out-v : tie.Need-shared-slice-copy-out-v
 shared-slice-copy-out-v c = search needs
 
--- src/lib.rt:185:23
 sub-d : tie.Need-sub-d
 sub-d c = search needs
 
--- src/lib.rt:185:18
 mul-d : tie.Need-mul-d
 mul-d c = search needs
 
--- src/lib.rt:185:18
 add-d : tie.Need-add-d
 add-d c = search needs
 
--- src/lib.rt:185:13
 mul-d-2 : tie.Need-mul-d-2
 mul-d-2 c = search needs
 
--- src/lib.rt:185:13
 shared-slice-copy-out-d : tie.Need-shared-slice-copy-out-d
 shared-slice-copy-out-d c = search needs
 
--- src/lib.rt:186:23
 sub-z : tie.Need-sub-z
 sub-z c = search needs
 
--- src/lib.rt:186:18
 mul-z : tie.Need-mul-z
 mul-z c = search needs
 
--- src/lib.rt:186:18
 add-z : tie.Need-add-z
 add-z c = search needs
 
--- src/lib.rt:186:13
 mul-z-2 : tie.Need-mul-z-2
 mul-z-2 c = search needs
 
--- src/lib.rt:186:13
 shared-slice-copy-out-z : tie.Need-shared-slice-copy-out-z
 shared-slice-copy-out-z c = search needs
 
--- src/lib.rt:187:5
 build-requires : tie.Need-build-requires
 build-requires c κs = search needs
 
--- src/lib.rt:172:1
 returns-2 : tie.Need-returns-2
 returns-2 c =
     let q = c .before .before .before .before in

@@ -1,35 +1,16 @@
-use mathlib.Core.Path.{_≡_, refl, sym, ap, _∙_}
-use mathlib.Core.Bool.{Bool, true, false, not, cond}
-use Prim.Native.Nat.{ℕ, suc, _+_, _-_, _*_, _≤_}
-use native.Mathlib.Omega.{arith}
-use lib.ListN.{getD, length}
-use lib.IntN.{ℤ, pos}
-use lib.Signed.{ltZ}
-use mir.Syntax.{w16}
-use mir.Val.{toZ, ofZ}
+-- `before` meets its contract.
+use mathlib.Core.Bool.{true, false}
 use mir.Facts.{toZ-ofZ}
-use lib.Dec.{eqb}
-use borrow.Author.Tests.{eq-eqb, ne-eqb}
-use Rattle.intervals.specs.Paint.{pt}
-use Rattle.intervals.specs.Cut.{gapb, lx}
-use Rattle.flat_records.proofs.Parts.{same16}
-use Rattle.flat_records.specs.Fours.{fourAt}
-use Rattle.cell_painting.specs.Reach.{beforeLate, afterEarly, lateR, earlyR}
-use Rattle.cell_painting.proofs.Bits.{lt16, last-yes, last-no, first-yes, first-no}
+use Rattle.cell_painting.proofs.Bits.{lt16}
 use Rattle.cell_painting.proofs.reach.before.Statement.{statement}
 use Rattle.cell_painting.proofs.reach.before.Tie as tie
-use Rattle.cell_painting.proofs.reach.before.Reads as reads
-use Rattle.cell_painting.proofs.reach.before.Lts as lts
 
--- src/lib.rt:21:9
 returns : tie.Need-returns
 returns c = let s = c .before in rw (lt16 true (s .fits .t) (s .fits .u) (c .if1 .taken))
 
--- src/lib.rt:24:9
 returns-2 : tie.Need-returns-2
 returns-2 c = let s = c .before .before in rw (lt16 false (s .fits .t) (s .fits .u) (c .before .if1 .left), lt16 true (s .fits .u) (s .fits .t) (c .if2 .taken))
 
--- src/lib.rt:17:1
 returns-3 : tie.Need-returns-3
 returns-3 c = let s = c .before .before in rw (lt16 false (s .fits .t) (s .fits .u) (c .before .if1 .left), lt16 false (s .fits .u) (s .fits .t) (c .if2 .left), toZ-ofZ (s .fits .p), toZ-ofZ (s .fits .q))
 

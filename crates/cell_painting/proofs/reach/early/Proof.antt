@@ -1,65 +1,45 @@
-use mathlib.Core.Path.{_≡_, refl, sym, ap, _∙_}
-use mathlib.Core.Bool.{Bool, true, false, not, cond}
-use Prim.Native.Nat.{ℕ, suc, _+_, _-_, _*_, _≤_}
-use native.Mathlib.Omega.{arith}
-use lib.ListN.{getD, length}
-use lib.IntN.{ℤ, pos}
-use lib.Signed.{ltZ}
+-- `early` meets its contract.
+use mathlib.Core.Path.{_∙_}
+use Prim.Native.Nat.{_+_}
+use lib.ListN.{getD}
+use lib.IntN.{pos}
 use mir.Syntax.{w16}
-use mir.Val.{toZ, ofZ}
+use mir.Val.{ofZ}
 use mir.Facts.{toZ-ofZ}
-use lib.Dec.{eqb}
-use borrow.Author.Tests.{eq-eqb, ne-eqb}
 use Rattle.intervals.specs.Paint.{pt}
 use Rattle.intervals.specs.Cut.{gapb, lx}
 use Rattle.flat_records.proofs.Parts.{same16}
-use Rattle.flat_records.specs.Fours.{fourAt}
-use Rattle.cell_painting.specs.Reach.{beforeLate, afterEarly, lateR, earlyR}
-use Rattle.cell_painting.proofs.Bits.{lt16, last-yes, last-no, first-yes, first-no}
 use borrow.Author.Needs.{needs}
 use Rattle.cell_painting.proofs.reach.early.Statement.{statement}
 use Rattle.cell_painting.proofs.reach.early.Tie as tie
-use Rattle.cell_painting.proofs.reach.early.Reads as reads
-use Rattle.cell_painting.proofs.reach.early.Lts as lts
-use Rattle.cell_painting.proofs.reach.gap.Reads as gap-reads
 
--- src/lib.rt:46:13
 mul-u : tie.Need-mul-u
 mul-u c = search needs
 
--- src/lib.rt:46:13
 shared-slice-copy-out-u : tie.Need-shared-slice-copy-out-u
 shared-slice-copy-out-u c = search needs
 
--- src/lib.rt:47:18
 add-d : tie.Need-add-d
 add-d c = search needs
 
--- src/lib.rt:47:13
 mul-d : tie.Need-mul-d
 mul-d c = search needs
 
--- src/lib.rt:47:13
 shared-slice-copy-out-d : tie.Need-shared-slice-copy-out-d
 shared-slice-copy-out-d c = search needs
 
--- src/lib.rt:48:18
 add-v : tie.Need-add-v
 add-v c = search needs
 
--- src/lib.rt:48:13
 mul-v : tie.Need-mul-v
 mul-v c = search needs
 
--- src/lib.rt:48:13
 shared-slice-copy-out-v : tie.Need-shared-slice-copy-out-v
 shared-slice-copy-out-v c = search needs
 
--- src/lib.rt:49:5
 gap-requires : tie.Need-gap-requires
 gap-requires c κs = search needs
 
--- src/lib.rt:42:1
 returns : tie.Need-returns
 returns c =
     let s = c .before .before .before .before in

@@ -1,8 +1,6 @@
 -- `step` meets its contract. What `cut_track` finds is found once (`found`); each need below is read from it.
-use mathlib.Core.Path.{_≡_, sym}
-use Prim.Native.Nat.{ℕ, _+_, _-_, _*_, _≤_}
+use Prim.Native.Nat.{_+_, _-_, _≤_}
 use native.Mathlib.Omega.{arith}
-use lib.ListN.{length}
 use mir.Syntax.{w16}
 use mir.Val.{ofZ}
 use Rattle.cell_painting.specs.Reach.{Reaches}

@@ -1,109 +1,123 @@
-use mathlib.Core.Path.{_≡_, refl, sym, ap, _∙_, subst}
-use Prim.Native.Nat.{ℕ, suc, _+_, _-_, _*_, _≤_, _<_}
+-- `sweep` meets its contract. The tracks from `t` on are swept already (`SInv`).
 use native.Mathlib.Omega.{arith}
 use mir.Syntax.{w16}
-use mir.Val.{toZ, ofZ}
+use mir.Val.{toZ}
 use mir.Facts.{toZ-ofZ}
-use Rattle.signed.proofs.Laws.{signed, rng}
 use Rattle.signed.specs.Parts.{gap}
-use Rattle.cell_painting.proofs.Bits.{good-back, lt16-back}
-use Rattle.cell_painting.proofs.Sweep.{SInv, s-start, s-late, s-room, s-next, s-done, down-long, roomy-back, swept-plain}
+use Rattle.signed.proofs.Laws.{signed, rng}
+use Rattle.cell_painting.proofs.Bits.{ζ, good-back, lt16-back}
+use Rattle.cell_painting.proofs.Sweep.{Lifted, lifted, SInv, s-start, s-late, s-room, s-next, down-long}
+use Rattle.cell_painting.proofs.Swept.{s-done, s-tail, roomy-back, swept-plain, tail-back, tail-plain}
 use borrow.Author.Needs.{needs}
 use Rattle.cell_painting.proofs.sweeps.sweep.Statement.{statement}
 use Rattle.cell_painting.proofs.sweeps.sweep.Tie as tie
-use Rattle.cell_painting.proofs.sweeps.sweep.Reads as reads
-use Rattle.cell_painting.proofs.sweeps.sweep.Lts as lts
-use Rattle.cell_painting.proofs.sweeps.lower.Reads as lower-reads
-use Rattle.flat_records.proofs.wipe.Reads as wipe-reads
-use Rattle.cell_painting.proofs.sweeps.step.Reads as step-reads
 
 abbrev Inv-loop : tie.InvT-loop
-Inv-loop list₀ used top t1 t2 a b s all r₀ w₀ t₀ list r w t = SInv all list₀ used top (toZ w16 t1) (toZ w16 t2) (toZ w16 a) (toZ w16 b) (toZ w16 s) list r w (toZ w16 t)
+Inv-loop list₀ used behind top t1 t2 a b s all r₀ w₀ t₀ list r w t = SInv all list₀ r₀ w₀ top (toZ w16 t1) (toZ w16 t2) (toZ w16 a) (toZ w16 b) (toZ w16 s) list r w (toZ w16 t)
 
 abbrev μ-loop : tie.MeasureT-loop
-μ-loop list₀ used top t1 t2 a b s all r₀ w₀ t₀ list r w t = gap (toZ w16 t1) (toZ w16 t)
+μ-loop list₀ used behind top t1 t2 a b s all r₀ w₀ t₀ list r w t = gap (toZ w16 t1) (toZ w16 t)
 
--- src/lib.rt:116:5
+sub-r : tie.Need-sub-r Inv-loop μ-loop
+sub-r c = c .pre .1 .1 .1 .1 .few
+
+sub-w : tie.Need-sub-w Inv-loop μ-loop
+sub-w c = omega (arith, c .pre .1 .1 .1 .1 .few, c .pre .0 .low)
+
+mul-lift : tie.Need-mul-lift Inv-loop μ-loop
+mul-lift c = let R = c .before .pre .0 in omega (arith, R .low, R .room)
+
+mul-lift-2 : tie.Need-mul-lift-2 Inv-loop μ-loop
+mul-lift-2 c = let R = c .before .pre .0 in omega (arith, R .low, R .room)
+
+sub-lift : tie.Need-sub-lift Inv-loop μ-loop
+sub-lift c = c .before .pre .0 .low
+
+mul-lift-3 : tie.Need-mul-lift-3 Inv-loop μ-loop
+mul-lift-3 c = let R = c .before .pre .0 in omega (arith, R .low, R .room)
+
+lift-requires : tie.Need-lift-requires Inv-loop μ-loop
+lift-requires c κs = let R = c .before .pre .0 in (omega arith, omega (arith, R .low, R .room))
+
+-- the list at the loop's start
+start : (c : tie.After-lift Inv-loop μ-loop) → Lifted (c .before .before .args .list .now) (c .before .before .args .used) (c .before .before .args .behind) (c .before .before .args .top) (ζ (c .before .before .args .t2)) (c .lift .last .0)
+start c = let s = c .before .before in lifted (s .pre .0) (tail-back (s .fits .t2) (s .pre .1 .1 .1 .1)) _ (c .lift .ensures)
+
 loop-holds : tie.Need-loop-holds Inv-loop μ-loop
 loop-holds c =
-    let f = c .fits in
-    s-start _ _ _ _ _ _ _ _ _ (c .pre .0) (good-back (f .a) (f .b) (f .s) (c .pre .1 .0)) (roomy-back (f .a) (f .b) (f .s) (f .t1) (f .t2) (c .pre .1 .1 .1)) (lt16-back (f .t1) (f .t2) (c .pre .1 .1 .0))
+    let s = c .before .before .before in
+    let f = s .fits in
+    s-start _ _ _ _ _ (start (c .before)) (good-back (f .a) (f .b) (f .s) (s .pre .1 .0)) (roomy-back (f .a) (f .b) (f .s) (f .t1) (f .t2) (s .pre .1 .1 .1 .0)) (lt16-back (f .t1) (f .t2) (s .pre .1 .1 .0))
 
--- src/lib.rt:117:9
 sub-t : tie.Need-sub-t Inv-loop μ-loop
-sub-t c = let v = c .before .loop .inv in omega (signed, rng (c .before .before .fits .t1), rng (c .before .before .fits .t2), v .high)
+sub-t c =
+    let v = c .before .loop .inv in
+    let f = c .before .before .before .before .before .fits in
+    omega (signed, rng (f .t1), rng (f .t2), v .high)
 
--- src/lib.rt:118:13
 step-requires : tie.Need-step-requires Inv-loop μ-loop
 step-requires c κs =
     let y = c .before in
     let v = y .before .loop .inv in
     (v .gapped, (v .good, (s-late v _ (toZ-ofZ (sub-t y)) (y .loop-test .taken), s-room v _ (toZ-ofZ (sub-t y)) (y .loop-test .taken))))
 
--- src/lib.rt:116:5
 loop-less : tie.Need-loop-less Inv-loop μ-loop
 loop-less c = omega (signed, sub-t (c .before .before .before))
 
--- src/lib.rt:116:5
 loop-again : tie.Need-loop-again Inv-loop μ-loop
 loop-again c =
     let y = c .before .before .before in
     s-next (y .before .loop .inv) _ (toZ-ofZ (sub-t y)) (y .loop-test .taken) _ _ _ (c .before .step .ensures)
 
--- src/lib.rt:122:18
 sub-n : tie.Need-sub-n Inv-loop μ-loop
-sub-n c = let g = c .before .loop .inv .gapped in omega (arith, g .low, g .high, g .room)
+sub-n c = let g = c .before .loop .inv .gapped in omega (arith, g .high)
 
--- src/lib.rt:122:13
 add-n : tie.Need-add-n Inv-loop μ-loop
 add-n c = let g = c .before .loop .inv .gapped in omega (arith, g .low, g .high, g .room)
 
--- src/lib.rt:123:21
-mul-lower : tie.Need-mul-lower Inv-loop μ-loop
-mul-lower c = let g = c .before .before .loop .inv .gapped in omega (arith, g .low, g .high, g .room)
+mul-sink : tie.Need-mul-sink Inv-loop μ-loop
+mul-sink c = let g = c .before .before .loop .inv .gapped in omega (arith, g .high, g .room)
 
--- src/lib.rt:123:28
-mul-lower-2 : tie.Need-mul-lower-2 Inv-loop μ-loop
-mul-lower-2 c = let g = c .before .before .loop .inv .gapped in omega (arith, g .low, g .high, g .room)
+mul-sink-2 : tie.Need-mul-sink-2 Inv-loop μ-loop
+mul-sink-2 c = let g = c .before .before .loop .inv .gapped in omega (arith, g .room)
 
--- src/lib.rt:123:42
-sub-lower : tie.Need-sub-lower Inv-loop μ-loop
-sub-lower c = let g = c .before .before .loop .inv .gapped in omega (arith, g .low, g .high, g .room)
+sub-sink : tie.Need-sub-sink Inv-loop μ-loop
+sub-sink c = let g = c .before .before .loop .inv .gapped in g .low
 
--- src/lib.rt:123:37
-mul-lower-3 : tie.Need-mul-lower-3 Inv-loop μ-loop
-mul-lower-3 c = let g = c .before .before .loop .inv .gapped in omega (arith, g .low, g .high, g .room)
+mul-sink-3 : tie.Need-mul-sink-3 Inv-loop μ-loop
+mul-sink-3 c = let g = c .before .before .loop .inv .gapped in omega (arith, g .high, g .room)
 
--- src/lib.rt:123:5
-lower-requires : tie.Need-lower-requires Inv-loop μ-loop
-lower-requires c κs = let g = c .before .before .loop .inv .gapped in omega (arith, g .low, g .high, g .room)
+sink-requires : tie.Need-sink-requires Inv-loop μ-loop
+sink-requires c κs = let g = c .before .before .loop .inv .gapped in omega (arith, g .low, g .high, g .room)
 
--- src/lib.rt:124:16
 mul-wipe : tie.Need-mul-wipe Inv-loop μ-loop
 mul-wipe c = let g = c .before .before .before .before .before .loop .inv .gapped in omega (arith, g .low, g .high, g .room)
 
--- src/lib.rt:124:23
 mul-wipe-2 : tie.Need-mul-wipe-2 Inv-loop μ-loop
-mul-wipe-2 c = let g = c .before .before .before .before .before .loop .inv .gapped in omega (arith, g .low, g .high, g .room)
+mul-wipe-2 c = let g = c .before .before .before .before .before .loop .inv .gapped in omega (arith, g .room)
 
--- src/lib.rt:124:5
 wipe-requires : tie.Need-wipe-requires Inv-loop μ-loop
 wipe-requires c κs =
-    let l = c .before .before .before .before .before in
-    let g = l .loop .inv .gapped in
-    let u = down-long (l .loop .inv) (c .before .before .before .before .loop-test .left) _ (c .before .before .lower .ensures) in
+    let v = c .before .before .before .before .before .loop .inv in
+    let g = v .gapped in
+    let u = down-long v _ (c .before .before .sink .ensures) in
     (omega (arith, g .low, g .high), omega (arith, u, g .room))
 
--- src/lib.rt:96:1
 same-length : tie.Need-same-length Inv-loop μ-loop
 same-length c = search needs
 
--- src/lib.rt:96:1
 returns : tie.Need-returns Inv-loop μ-loop
 returns c =
-    let l = c .before .before .before .before .before .before .before in
-    let f = l .before .fits in
-    swept-plain (f .a) (f .b) (f .s) (f .t1) (f .t2) (s-done (l .loop .inv) (c .before .before .before .before .before .before .loop-test .left) _ (c .before .before .before .before .lower .ensures) _ (c .before .wipe .ensures))
+    let k = c .before .before .before .before .before .before in
+    let l = k .before in
+    let o = l .before .before in
+    let f = o .before .before .fits in
+    let S = start o in
+    let e = c .before .before .before .before .sink .ensures in
+    let p = c .before .wipe .ensures in (
+      swept-plain (f .a) (f .b) (f .s) (f .t1) (f .t2) (s-done S (l .loop .inv) (k .loop-test .left) _ e _ p),
+      tail-plain (f .t2) (s-tail S (l .loop .inv) (k .loop-test .left) _ e _ p),
+    )
 
 pub sweep-spec : {M : Type 1} → statement M
 sweep-spec =
@@ -111,6 +125,13 @@ sweep-spec =
     (tie.spec
     Inv-loop
     μ-loop
+    sub-r
+    sub-w
+    mul-lift
+    mul-lift-2
+    sub-lift
+    mul-lift-3
+    lift-requires
     loop-holds
     sub-t
     step-requires
@@ -118,11 +139,11 @@ sweep-spec =
     loop-again
     sub-n
     add-n
-    mul-lower
-    mul-lower-2
-    sub-lower
-    mul-lower-3
-    lower-requires
+    mul-sink
+    mul-sink-2
+    sub-sink
+    mul-sink-3
+    sink-requires
     mul-wipe
     mul-wipe-2
     wipe-requires

@@ -136,15 +136,15 @@ same-length-2 c = search needs
 returns : tie.Need-returns
 returns c =
     inr (
-      record {
-        number = c .before .refusal-of .result;
-        room = sym (refused (c .before));
-        some = omega arith;
-        result = refl;
-        answered = refl;
-        onto-primary = refl;
-        onto-secondary = refl
-      }
+    record {
+      number = c .before .refusal-of .result;
+      room = sym (refused (c .before));
+      some = omega arith;
+      result = refl;
+      answered = refl;
+      onto-primary = refl;
+      onto-secondary = refl;
+    }
     )
 
 -- no refusal: there is room on both lists
@@ -208,13 +208,13 @@ returns-2 c =
     let g = both d in
     let a = begun d .args in
     inl (
-      record {
-        room = sym (refused d) ∙ e .if1 .left;
-        result = λ j. On (record { primary = (c .before .grown .ensures ∙ ap (grown (a .matrix .primary)) (p-is g)) j; secondary = (c .grown2 .ensures ∙ ap (grown (a .matrix .secondary)) (s-is g)) j; «primary_used» = count-p d j; «secondary_used» = count-s d j });
-        answered = w .put-answer .ensures ∙ (λ j. sets (a .answers .now) (5 * a .i) (answerFive (laid (axisOf (a .columns)) (p-is g j) (s-is g j)) (mark-is d j)));
-        onto-primary = y .paint-tile .ensures ∙ ap (flat (length (a .primary .now))) (same-paint (recs (a .matrix .«primary_used») (a .primary .now)) (p-is g) (s-is g) (state-is g));
-        onto-secondary = z .paint-tile2 .ensures ∙ ap (flat (length (a .secondary .now))) (same-paint (recs (a .matrix .«secondary_used») (a .secondary .now)) (s-is g) (p-is g) (state-is g))
-      }
+    record {
+      room = sym (refused d) ∙ e .if1 .left;
+      result = λ j. On (record { primary = (c .before .grown .ensures ∙ ap (grown (a .matrix .primary)) (p-is g)) j; secondary = (c .grown2 .ensures ∙ ap (grown (a .matrix .secondary)) (s-is g)) j; «primary_used» = count-p d j; «secondary_used» = count-s d j });
+      answered = w .put-answer .ensures ∙ (λ j. sets (a .answers .now) (5 * a .i) (answerFive (laid (axisOf (a .columns)) (p-is g j) (s-is g j)) (mark-is d j)));
+      onto-primary = y .paint-tile .ensures ∙ ap (flat (length (a .primary .now))) (same-paint (recs (a .matrix .«primary_used») (a .primary .now)) (p-is g) (s-is g) (state-is g));
+      onto-secondary = z .paint-tile2 .ensures ∙ ap (flat (length (a .secondary .now))) (same-paint (recs (a .matrix .«secondary_used») (a .secondary .now)) (s-is g) (p-is g) (state-is g));
+    }
     )
 
 pub lay-spec : {M : Type 1} → statement M

@@ -21,11 +21,16 @@ repaint-requires c κs =
     let r = start-fits (a .tracks) (h .0) in
     let f = end-fits (a .tracks) (h .0) in
     let g = start-fits (a .lines) (h .1) in
-    let n = end-fits (a .lines) (h .1) in
-    (b .pre .0,
-    (fit16 r f g n (b .fits .state) (tile-fit (a .tracks) (a .lines) (a .state) (h .0) (h .1) (k .0) (k .1)),
-    (rw (toZ-ofZ r, toZ-ofZ f, toZ-ofZ g, toZ-ofZ n, toZ-ofZ (b .fits .state)) (b .pre .1 .1 .1 .0),
-    b .pre .1 .1 .1 .1)))
+    let n = end-fits (a .lines) (h .1) in (
+      b .pre .0,
+      (
+        fit16 r f g n (b .fits .state) (tile-fit (a .tracks) (a .lines) (a .state) (h .0) (h .1) (k .0) (k .1)),
+        (
+          rw (toZ-ofZ r, toZ-ofZ f, toZ-ofZ g, toZ-ofZ n, toZ-ofZ (b .fits .state)) (b .pre .1 .1 .1 .0),
+          b .pre .1 .1 .1 .1,
+        ),
+      ),
+    )
 
 same-length : tie.Need-same-length
 same-length c = search needs
