@@ -10,7 +10,7 @@ use lib.ListN.{length, drop}
 use lib.Signed.{ltZ, _≤ℤ_, _<ℤ_}
 use mir.Syntax.{w16}
 use mir.Val.{SFits}
-use Rattle.signed.proofs.Laws.{signed, by-test, neg, sum}
+use Rattle.signed.proofs.Laws.{signed}
 use Rattle.intervals.specs.Records.{Rec}
 use Rattle.intervals.specs.Lists.{recs, rules}
 use Rattle.coordinates.specs.declared.Lines.{Lines}
@@ -27,7 +27,7 @@ use Rattle.walk.proofs.SearchLaws.{firstLine-first, firstLine-high}
 use Rattle.walk.proofs.LinesLaws.{start-low, start-high}
 use Rattle.walk.proofs.Cells.{records-rules}
 use Rattle.walk.proofs.FreeLaws.{chooseLine-rule, choosePair-rule}
-use Rattle.walk.proofs.WalkLaws.{Kept, Fair, kept-laid, put-going, kept-begin4, no-growth}
+use Rattle.walk.proofs.WalkLaws.{Fair, kept-laid, put-going}
 use Rattle.walk.proofs.Range.{Good, lines-good, span-good, Within, WithinArea, CursorIn, within-pair, GoodItem, Run4, run4-item}
 use Rattle.walk.proofs.Loops.{each-next, each-stop, each-end}
 use Rattle.walk.proofs.Checks.{halves-length}
@@ -349,10 +349,6 @@ going-done {columns} {dense} {items} {once = once} {i = i} {m = m} {a = a} {p = 
     ∙ ap (λ (qs : List Queued). each w (step4 w (placeOf once)) qs (l .board)) (queue-end items i (omega (arith, halves-length items)))
     ∙ each-end w (step4 w (placeOf once)) (l .board) in
     subst (λ (u : Run). AfterStep columns room old u (Done m) a p s) (sym e) (m, (refl, l .ready))
-
--- the first items of good items
-pub items-upto : {l : List ℤ} {n i : ℕ} → Items l n → i < n → Items l (i + 1)
-items-upto {l} {n} {i} g h = record { long = omega (arith, g .long); good = λ j k. g .good j (omega arith) }
 
 -- the cursor of any item but the last
 pub near-all : {i : ℕ} {q : Place} → CursorIn i q → i < 2000 → CursorIn 1999 q

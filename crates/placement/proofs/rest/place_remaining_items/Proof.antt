@@ -14,8 +14,8 @@ use Rattle.walk.specs.Search.{at}
 use Rattle.searching.specs.declared.Pair.{Pair}
 use Rattle.placement.specs.Ready.{Items}
 use Rattle.placement.specs.Cursor.{placeOf}
-use Rattle.placement.proofs.Lays.{Lengths, sound-primary, sound-secondary}
-use Rattle.placement.proofs.Step4.{Going, items-upto, once-is-near, near-all, going-none, going-on, going-stops, going-done}
+use Rattle.placement.proofs.Lays.{Lengths, sound-primary, sound-secondary, items-upto}
+use Rattle.placement.proofs.Step4.{Going, once-is-near, near-all, going-none, going-on, going-stops, going-done}
 use Rattle.placement.proofs.rest.place_remaining_items.Statement.{statement}
 use Rattle.placement.proofs.rest.place_remaining_items.Tie as tie
 

@@ -95,9 +95,11 @@ returns-2 c =
     let s = begun d in
     let narrow : overwide (s .args .n) (counts d) ≡ false = sym (test-is d) ∙ c .before .if1 .left in
     let rs = recs (s .args .matrix .«secondary_used») (s .args .secondary .now) in
-    rw narrow
-    (c .first-free-pair .ensures
-    ∙ (λ j. firstPair (placesTo (end-is d j) (s .args .n)) (start-is d j) (λ y x. clear rs (from x (s .args .m)) (from y (s .args .n))) (s .args .cursor .primary) (s .args .cursor .secondary)), refl)
+    rw narrow (
+      c .first-free-pair .ensures
+          ∙ (λ j. firstPair (placesTo (end-is d j) (s .args .n)) (start-is d j) (λ y x. clear rs (from x (s .args .m)) (from y (s .args .n))) (s .args .cursor .primary) (s .args .cursor .secondary)),
+      refl,
+    )
 
 pub settle-pair-spec : {M : Type 1} → statement M
 settle-pair-spec =
