@@ -1,11 +1,11 @@
 -- The three steps one after the other, from cleared lists.
 use mathlib.Core.Path.{_≡_, refl, sym, ap, subst, _∙_}
 use mathlib.Core.Bool.{Bool, true, false}
-use mathlib.Core.List.{List, [], _∷_, _++_}
-use Prim.Native.Nat.{ℕ, _+_, _-_, _*_, _/_, _≤_}
+use mathlib.Core.List.{List, []}
+use Prim.Native.Nat.{ℕ, _-_}
 use native.Mathlib.Omega.{arith}
 use lib.IntN.{ℤ, pos}
-use lib.ListN.{length, replicate, drop}
+use lib.ListN.{length, replicate}
 use Rattle.intervals.specs.OverInt.{flat}
 use Rattle.grid_track_counts.specs.declared.TrackCounts.{TrackCounts}
 use Rattle.grid_track_counts.specs.Counts.{Sound}
@@ -36,12 +36,13 @@ pub step-done : {columns : Bool} {room : Both ℕ} {old : List ℤ} (u : Run) {r
 step-done {columns} {room} {old} (going b) {m = m} {a} {p} {s} (n, (e, k)) f = let y : n ≡ m = cc in record { board = b; is = refl; ready = subst (λ (x : Matrix). Ready columns room old b x a p s) y k }
 step-done (stopped n i) (e, k) f = let y : _≡_ {A = ℕ} 0 1 = cc in absurd (omega arith)
 
-pub record Halted (u : Run) (n i : ℕ) : Type 0 where
+pub record Halted (columns : Bool) (room : Both ℕ) (old : List ℤ) (u : Run) (n i : ℕ) (answers primary secondary : List ℤ) : Type 0 where
   pub is : u ≡ stopped n i
+  pub left : Stopped columns room old answers primary secondary
 
-pub step-refused : (columns : Bool) (room : Both ℕ) (old : List ℤ) (u : Run) (r : Stepped) {n i : ℕ} (a p s : List ℤ) → AfterStep columns room old u r a p s → r ≡ Refused n i → Halted u n i
+pub step-refused : (columns : Bool) (room : Both ℕ) (old : List ℤ) (u : Run) (r : Stepped) {n i : ℕ} (a p s : List ℤ) → AfterStep columns room old u r a p s → r ≡ Refused n i → Halted columns room old u n i a p s
 step-refused columns room old (going b) r a p s (m, (e, k)) f = let y : _≡_ {A = ℕ} 0 1 = cc in absurd (omega arith)
-step-refused columns room old (stopped n i) r a p s (e, k) f = record { is = cc }
+step-refused columns room old (stopped n i) r a p s (e, k) f = record { is = cc; left = k }
 
 -- ---- the walk by its steps
 
@@ -108,7 +109,7 @@ module _ (columns : Bool) (p s : TrackCounts) (f : Sound p) (g : Sound s) (old p
         secondary-room = rw rs (omega arith);
         primary-list = e ∙ sym (rw (rp, on-laid columns pl sl) (flat-none pl));
         secondary-list = h ∙ sym (rw (rs, off-laid columns pl sl) (flat-none sl));
-        answered = refl
+        answered = refl;
       }
 
   pub no-ends-empty : NoEnds columns (emptyBoard columns p s)
@@ -122,14 +123,33 @@ module _ (columns dense : Bool) (items : List ℤ) (p s : TrackCounts) (old : Li
       → AfterRun columns dense items p s old pl sl (Done m) a p′ s′
   run-done m a p′ s′ r k e =
       let v = step-done (runFor columns dense items p s pl sl) k e in
-      subst (λ (u : Run). LeftBy columns items old pl sl u (Done m) a p′ s′) (sym (v .is))
-      (m, (refl, (v .ready .primary-counts, (v .ready .secondary-counts, (v .ready .answered,
-      (v .ready .primary-list ∙ ap (λ (n : ℕ). flat n (recordsOn (axisOf columns) (v .board .tiles))) (on-laid columns pl sl),
-      v .ready .secondary-list ∙ ap (λ (n : ℕ). flat n (recordsOn (other (axisOf columns)) (v .board .tiles))) (off-laid columns pl sl)))))))
+      subst (λ (u : Run). LeftBy columns old pl sl u (Done m) a p′ s′) (sym (v .is)) (
+        m,
+        (
+          refl,
+          (
+            v .ready .primary-counts,
+            (
+              v .ready .secondary-counts,
+              (
+                v .ready .answered,
+                (
+                  v .ready .primary-list ∙ ap (λ (n : ℕ). flat n (recordsOn (axisOf columns) (v .board .tiles))) (on-laid columns pl sl),
+                  v .ready .secondary-list ∙ ap (λ (n : ℕ). flat n (recordsOn (other (axisOf columns)) (v .board .tiles))) (off-laid columns pl sl),
+                ),
+              ),
+            ),
+          ),
+        ),
+      )
 
   pub run-refused : (n i : ℕ) (a p′ s′ : List ℤ) (r : Stepped) → AfterStep columns (laid (axisOf columns) pl sl) old (runFor columns dense items p s pl sl) r a p′ s′ → r ≡ Refused n i
-      → (a″ p″ s″ : List ℤ) → a″ ≡ replicate (5 * (length items / 6)) (pos 0) ++ drop (5 * (length items / 6)) old → p″ ≡ replicate pl (pos 0) → s″ ≡ replicate sl (pos 0)
+      → (a″ p″ s″ : List ℤ) → a″ ≡ replicate (length a) (pos 0) → p″ ≡ replicate (length p′) (pos 0) → s″ ≡ replicate (length s′) (pos 0)
       → AfterRun columns dense items p s old pl sl (Refused n i) a″ p″ s″
   run-refused n i a p′ s′ r k e a″ p″ s″ x y z =
       let v = step-refused columns (laid (axisOf columns) pl sl) old (runFor columns dense items p s pl sl) r a p′ s′ k e in
-      subst (λ (u : Run). LeftBy columns items old pl sl u (Refused n i) a″ p″ s″) (sym (v .is)) (refl, (x, (y, z)))
+      subst (λ (u : Run). LeftBy columns old pl sl u (Refused n i) a″ p″ s″) (sym (v .is))
+      (refl, (x ∙ ap zeros (v .left .answers-long), (y ∙ ap zeros (v .left .primary-long ∙ on-laid columns pl sl), z ∙ ap zeros (v .left .secondary-long ∙ off-laid columns pl sl))))
+    where
+      zeros : ℕ → List ℤ
+      zeros k = replicate k (pos 0)

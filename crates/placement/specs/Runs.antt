@@ -1,10 +1,10 @@
 -- What a whole run leaves, for a request that has passed the checks: by the walk from an empty board. "clears both lists and places".
 use mathlib.Core.Path.{_≡_}
 use mathlib.Core.Bool.{Bool}
-use mathlib.Core.List.{List, [], _++_}
-use Prim.Native.Nat.{ℕ, _*_, _/_}
+use mathlib.Core.List.{List, []}
+use Prim.Native.Nat.{ℕ}
 use lib.IntN.{ℤ, pos}
-use lib.ListN.{length, replicate, drop}
+use lib.ListN.{length, replicate}
 use Rattle.intervals.specs.OverInt.{flat}
 use Rattle.grid_track_counts.specs.declared.TrackCounts.{TrackCounts}
 use Rattle.walk.specs.Axis.{other, Both, on, laid}
@@ -26,20 +26,20 @@ emptyBoard columns p s = record { tiles = []; counts = laid (axisOf columns) p s
 abbrev pub runFor : Bool → Bool → List ℤ → TrackCounts → TrackCounts → ℕ → ℕ → Run
 runFor columns dense items p s pl sl = walk (settingFor columns dense (laid (axisOf columns) pl sl)) (λ c. c) (queued items) (emptyBoard columns p s)
 
--- it is answered: the final counts, the answers over the old ones, and the lists that painting the tiles makes; or a list is too short: "with that item's
+-- `old` is what the answer places of all items held, and no place more. It is answered: the final counts, the answers written there, and the lists that painting the tiles makes; or a list is too short: "with that item's
 -- index, and then the answer places of all items and both lists are zero"
-abbrev pub LeftBy : Bool → List ℤ → List ℤ → ℕ → ℕ → Run → Stepped → List ℤ → List ℤ → List ℤ → Type 0
-LeftBy columns items old pl sl (going b) r answers primary secondary =
+abbrev pub LeftBy : Bool → List ℤ → ℕ → ℕ → Run → Stepped → List ℤ → List ℤ → List ℤ → Type 0
+LeftBy columns old pl sl (going b) r answers primary secondary =
     (m : Matrix)
     × ((r ≡ Done m)
     × ((m .primary ≡ on (axisOf columns) (b .counts))
     × ((m .secondary ≡ on (other (axisOf columns)) (b .counts))
     × ((answers ≡ written (b .tiles) old)
     × ((primary ≡ flat pl (recordsOn (axisOf columns) (b .tiles))) × (secondary ≡ flat sl (recordsOn (other (axisOf columns)) (b .tiles))))))))
-LeftBy columns items old pl sl (stopped n i) r answers primary secondary =
+LeftBy columns old pl sl (stopped n i) r answers primary secondary =
     (r ≡ Refused n i)
-    × ((answers ≡ replicate (5 * (length items / 6)) (pos 0) ++ drop (5 * (length items / 6)) old)
+    × ((answers ≡ replicate (length old) (pos 0))
     × ((primary ≡ replicate pl (pos 0)) × (secondary ≡ replicate sl (pos 0))))
 
 abbrev pub AfterRun : Bool → Bool → List ℤ → TrackCounts → TrackCounts → List ℤ → ℕ → ℕ → Stepped → List ℤ → List ℤ → List ℤ → Type 0
-AfterRun columns dense items p s old pl sl r answers primary secondary = LeftBy columns items old pl sl (runFor columns dense items p s pl sl) r answers primary secondary
+AfterRun columns dense items p s old pl sl r answers primary secondary = LeftBy columns old pl sl (runFor columns dense items p s pl sl) r answers primary secondary
