@@ -62,6 +62,9 @@ module _ {columns : Bool} {room : Both ℕ} {old : List ℤ} {b : Board} {m : Ma
   pub secondary-recs : recs (m .«secondary_used») secondary ≡ recordsOn y (b .tiles)
   secondary-recs = rw (k .secondary-list, k .secondary-used) (flat-recs (on y room) (recordsOn y (b .tiles)))
 
+  pub answers-length : length answers ≡ length old
+  answers-length = ap length (k .answered) ∙ written-length (b .tiles) old
+
   pub primary-length : length primary ≡ on x room
   primary-length = rw (k .primary-list) (Fl.length-flat digits digit-laws (on x room) (recordsOn x (b .tiles)) (k .primary-room))
 

@@ -3,3 +3,4 @@ pub mod Laying
 pub mod Step1
 pub mod Step2
 pub mod Step4
+pub mod Runs

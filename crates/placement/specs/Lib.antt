@@ -2,3 +2,4 @@ pub mod Laying
 pub mod Ready
 pub mod Ends
 pub mod Cursor
+pub mod Runs

@@ -2,7 +2,7 @@
 ghost use mathlib.Core.Path.{_≡_};
 ghost use mathlib.Core.Bool.{cond, _||_};
 ghost use mathlib.Core.List.{[], _∷_};
-ghost use Prim.Native.Nat.{ℕ, _+_, _*_, _≤_, _<_, _%_};
+ghost use Prim.Native.Nat.{_+_, _*_, _≤_, _<_, _%_};
 ghost use lib.Dec.{ltb};
 ghost use lib.IntN.{ℤ, pos};
 ghost use lib.Signed.{_≤ℤ_};
@@ -127,6 +127,7 @@ fn paint_tile(list: &mut [i16], used: usize, tracks: Lines, lines: Lines, state:
     let _ = repaint(list, used, track_start, track_end, start, end, state, total);
 }
 
+// Lays a tile of these primary and secondary lines, or gives the number of the list that has too few places and changes nothing.
 pub fn lay(
     columns: bool,
     p: Lines,
@@ -151,26 +152,19 @@ pub fn lay(
     let p_lines = p_limiting.lines;
     let s_lines = s_limiting.lines;
     let mark = mark_of(flags, p_limiting.pressed, s_limiting.pressed);
-    let primary_used = matrix.primary_used;
-    let secondary_used = matrix.secondary_used;
+    let p_used = matrix.primary_used;
+    let s_used = matrix.secondary_used;
     // Room is judged before either list is changed.
-    let on_primary = records_with(primary, primary_used, p_lines, s_lines, state);
-    let on_secondary = records_with(secondary, secondary_used, s_lines, p_lines, state);
+    let on_primary = records_with(primary, p_used, p_lines, s_lines, state);
+    let on_secondary = records_with(secondary, s_used, s_lines, p_lines, state);
     let primary_short = is_short(primary.len(), on_primary);
     let secondary_short = is_short(secondary.len(), on_secondary);
     let refusal = refusal_of(columns, primary_short, secondary_short);
     if refusal != 0 {
         return Laid::Short(refusal);
     }
-    paint_tile(primary, primary_used, p_lines, s_lines, state, on_primary);
-    paint_tile(
-        secondary,
-        secondary_used,
-        s_lines,
-        p_lines,
-        state,
-        on_secondary,
-    );
+    paint_tile(primary, p_used, p_lines, s_lines, state, on_primary);
+    paint_tile(secondary, s_used, s_lines, p_lines, state, on_secondary);
     put_answer(answers, i, columns, p_lines, s_lines, mark);
     let p_counts = matrix.primary;
     let s_counts = matrix.secondary;

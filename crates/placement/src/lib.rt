@@ -5,6 +5,7 @@ use grid_track_counts::TrackCounts;
 pub mod definite;
 pub mod lay;
 pub mod rest;
+pub mod run;
 pub mod secondary;
 
 // Beside the lists: the counts of each axis, and how many records each list holds.

@@ -6,7 +6,10 @@ use Prim.Native.Nat.{ℕ, _+_, _*_}
 use lib.IntN.{ℤ, pos}
 use lib.ListN.{getD}
 use Rattle.walk.specs.Axis.{Axis, col, row, Both}
-use Rattle.walk.specs.Request.{Half, half}
+use Rattle.grid_track_counts.specs.declared.TrackCounts.{TrackCounts}
+use Rattle.walk.specs.Request.{Half, half, Request, Refusal}
+use Rattle.request.specs.declared.checks.Check.{Check}
+use Rattle.request.specs.declared.checks.Check.the-variants.{Passed, Refused}
 use Rattle.request.specs.declared.FirstBad.{FirstBad}
 use Rattle.request.specs.declared.FirstBad.the-variants.{At, AllGood}
 
@@ -30,3 +33,12 @@ firstBadOf (some i) = At i
 abbrev pub axisOf : Bool → Axis
 axisOf true = col
 axisOf false = row
+
+-- "A placement run checks 1 to 6 in that order": the request of a call's arguments, and what the check answers
+abbrev pub requestOf : ℕ → TrackCounts → TrackCounts → List ℤ → ℕ → ℕ → ℕ → Request
+requestOf flow columns rows items answers columnList rowList =
+    record { flow = flow; counts = record { columns = columns; rows = rows }; items = items; answers = answers; lists = record { columns = columnList; rows = rowList } }
+
+abbrev pub checkOf : Option Refusal → Check
+checkOf none = Passed
+checkOf (some x) = Refused (x .number) (x .index)

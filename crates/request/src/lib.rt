@@ -13,6 +13,8 @@ use cell_occupancy::rules::number;
 use coordinates::Lines;
 use walk::Placement;
 
+pub mod checks;
+
 // The first item that breaks its rules, if one does.
 pub enum FirstBad {
     At(usize),

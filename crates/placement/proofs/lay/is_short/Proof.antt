@@ -1,5 +1,4 @@
 -- `is_short` meets its contract.
-use Prim.Native.Nat.{_/_}
 use Rattle.placement.proofs.Laying.{quarter}
 use Rattle.placement.proofs.lay.is_short.Statement.{statement}
 use Rattle.placement.proofs.lay.is_short.Tie as tie

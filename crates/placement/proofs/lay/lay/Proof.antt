@@ -3,7 +3,7 @@ use borrow.Author.Needs.{needs}
 use borrow.Author.Tests.{ltb-false}
 use mathlib.Core.Path.{_≡_, refl, sym, ap, subst, _∙_}
 use mathlib.Core.Logic.{inl, inr}
-use mathlib.Core.Bool.{Bool, false, _||_}
+use mathlib.Core.Bool.{false, _||_}
 use mathlib.Core.List.{List}
 use Prim.Native.Nat.{ℕ, _+_, _*_, _≤_, _<_}
 use native.Mathlib.Omega.{arith}
@@ -62,6 +62,9 @@ module _ (c : tie.After-into-limited-grid2) where
 
   s-limited : Limited sl
   s-limited = subst Limited (sym s-is) (limited-meets (start .args .s))
+
+  both-limited : Limited pl × Limited sl
+  both-limited = (p-limited, s-limited)
 
   -- the state is what is read back from its bits
   state-is : toZ w16 (ofZ w16 (start .args .state)) ≡ start .args .state
@@ -165,14 +168,14 @@ paint-tile-requires : tie.Need-paint-tile-requires
 paint-tile-requires c κs =
     let d = c .before .before in
     let g = both d in
-    (start g .pre .0 .0, ((p-limited g, s-limited g), (state-good g, (counted d .before .before .records-with .ensures, room-p (c .before)))))
+    (start g .pre .0 .0, ((search (both-limited g), search (both-limited g)), (state-good g, (counted d .before .before .records-with .ensures, room-p (c .before)))))
 
 paint-tile-requires-2 : tie.Need-paint-tile-requires-2
 paint-tile-requires-2 c κs =
     let e = c .before .before .before .before in
     let d = e .before in
     let g = both d in
-    (start g .pre .0 .1, ((s-limited g, p-limited g), (state-good g, (counted d .records-with2 .ensures, room-s e))))
+    (start g .pre .0 .1, ((search (both-limited g), search (both-limited g)), (state-good g, (counted d .records-with2 .ensures, room-s e))))
 
 put-answer-requires : tie.Need-put-answer-requires
 put-answer-requires c κs =
@@ -182,12 +185,12 @@ put-answer-requires c κs =
 grown-requires : tie.Need-grown-requires
 grown-requires c κs =
     let g = both (c .before .before .before .before .before .before .before .before .before .before .before .before) in
-    (start g .pre .1 .0 .0, p-limited g)
+    (start g .pre .1 .0 .0, search (both-limited g))
 
 grown-requires-2 : tie.Need-grown-requires-2
 grown-requires-2 c κs =
     let g = both (c .before .before .before .before .before .before .before .before .before .before .before .before .before) in
-    (start g .pre .1 .0 .1, s-limited g)
+    (start g .pre .1 .0 .1, search (both-limited g))
 
 same-length-3 : tie.Need-same-length-3
 same-length-3 c = search needs
@@ -198,22 +201,56 @@ same-length-4 c = search needs
 same-length-5 : tie.Need-same-length-5
 same-length-5 c = search needs
 
+-- all is done: each part of the contract
+module _ (c : tie.After-grown2) where
+  abbrev answering : tie.After-put-answer
+  answering = c .before .before .before .before .before
+
+  abbrev second : tie.After-paint-tile2
+  second = answering .before .before .before
+
+  abbrev first : tie.After-paint-tile
+  first = second .before .before .before
+
+  abbrev roomy : tie.Else1
+  roomy = first .before .before
+
+  abbrev found : tie.After-refusal-of
+  found = roomy .before
+
+  abbrev entry : tie.Start
+  entry = begun found
+
+  p-now : pl (both found) ≡ limited (entry .args .p)
+  p-now = p-is (both found)
+
+  s-now : sl (both found) ≡ limited (entry .args .s)
+  s-now = s-is (both found)
+
+  p-grown : c .before .grown .result ≡ grown (entry .args .matrix .primary) (limited (entry .args .p))
+  p-grown = c .before .grown .ensures ∙ ap (grown (entry .args .matrix .primary)) p-now
+
+  s-grown : c .grown2 .result ≡ grown (entry .args .matrix .secondary) (limited (entry .args .s))
+  s-grown = c .grown2 .ensures ∙ ap (grown (entry .args .matrix .secondary)) s-now
+
+  written : answering .put-answer .last .0 ≡ sets (entry .args .answers .now) (5 * entry .args .i) (answerFive (laid (axisOf (entry .args .columns)) (limited (entry .args .p)) (limited (entry .args .s))) (markOf (entry .args .p) (entry .args .s) (entry .args .flags)))
+  written = answering .put-answer .ensures ∙ (λ j. sets (entry .args .answers .now) (5 * entry .args .i) (answerFive (laid (axisOf (entry .args .columns)) (p-now j) (s-now j)) (mark-is found j)))
+
+  p-painted : first .paint-tile .last .0 ≡ flat (length (entry .args .primary .now)) (on-p found)
+  p-painted = first .paint-tile .ensures ∙ ap (flat (length (entry .args .primary .now))) (same-paint (recs (entry .args .matrix .«primary_used») (entry .args .primary .now)) p-now s-now (state-is (both found)))
+
+  s-painted : second .paint-tile2 .last .0 ≡ flat (length (entry .args .secondary .now)) (on-s found)
+  s-painted = second .paint-tile2 .ensures ∙ ap (flat (length (entry .args .secondary .now))) (same-paint (recs (entry .args .matrix .«secondary_used») (entry .args .secondary .now)) s-now p-now (state-is (both found)))
+
 returns-2 : tie.Need-returns-2
 returns-2 c =
-    let w = c .before .before .before .before .before in
-    let z = w .before .before .before in
-    let y = z .before .before .before in
-    let e = y .before .before in
-    let d = e .before in
-    let g = both d in
-    let a = begun d .args in
     inl (
     record {
-      room = sym (refused d) ∙ e .if1 .left;
-      result = λ j. On (record { primary = (c .before .grown .ensures ∙ ap (grown (a .matrix .primary)) (p-is g)) j; secondary = (c .grown2 .ensures ∙ ap (grown (a .matrix .secondary)) (s-is g)) j; «primary_used» = count-p d j; «secondary_used» = count-s d j });
-      answered = w .put-answer .ensures ∙ (λ j. sets (a .answers .now) (5 * a .i) (answerFive (laid (axisOf (a .columns)) (p-is g j) (s-is g j)) (mark-is d j)));
-      onto-primary = y .paint-tile .ensures ∙ ap (flat (length (a .primary .now))) (same-paint (recs (a .matrix .«primary_used») (a .primary .now)) (p-is g) (s-is g) (state-is g));
-      onto-secondary = z .paint-tile2 .ensures ∙ ap (flat (length (a .secondary .now))) (same-paint (recs (a .matrix .«secondary_used») (a .secondary .now)) (s-is g) (p-is g) (state-is g));
+      room = sym (refused (found c)) ∙ roomy c .if1 .left;
+      result = λ j. On (record { primary = p-grown c j; secondary = s-grown c j; «primary_used» = count-p (found c) j; «secondary_used» = count-s (found c) j });
+      answered = written c;
+      onto-primary = p-painted c;
+      onto-secondary = s-painted c;
     }
     )
 

@@ -1,9 +1,5 @@
 -- `paint_tile` meets its contract: what it calls speaks of the lines as read back from their bits.
 use borrow.Author.Needs.{needs}
-use mathlib.Core.Path.{_≡_}
-use mathlib.Core.List.{List}
-use Prim.Native.Nat.{ℕ}
-use lib.IntN.{ℤ}
 use lib.ListN.{length}
 use mir.Facts.{toZ-ofZ}
 use Rattle.intervals.specs.Lists.{recs}

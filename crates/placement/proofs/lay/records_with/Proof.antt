@@ -1,5 +1,4 @@
 -- `records_with` meets its contract: what it calls speaks of the lines as read back from their bits.
-use mathlib.Core.List.{List}
 use Rattle.intervals.specs.Lists.{recs}
 use Rattle.cell_painting.proofs.Callers.{count16, fit16}
 use Rattle.placement.proofs.Laying.{start-fits, end-fits, tile-fit}
