@@ -149,8 +149,13 @@ stripe-pair n g e ok beyond w s = firstPair-is n e g ok beyond (omega (signed, s
     on y x (here a b) k = absurd (let z : ⊥ = omega signed in z)
     on y x (later a b c) k = absurd (let z : ⊥ = omega signed in z)
 
+-- where the grid holds every record, whole tracks are as good as the grid's lines
+pub stripe-line : (rs : List (Rec ℤ)) → rules rs ≡ true → (m : ℕ) (g e : ℤ) → Inside rs g e → (s : ℤ) → firstLine (λ x. clear rs (from x m) (lines g e)) s ≡ firstLine (clearStripe rs m) s
+stripe-line rs h m g e w s = ap (λ (f : ℤ → Bool). firstLine f s) (fun-ext (λ x. stripe-grid rs h g e w (from x m)))
+
 -- so a tile as wide as a grid that holds every record is searched by whole tracks
 pub stripe-found : (rs : List (Rec ℤ)) → rules rs ≡ true → (n m : ℕ) (g e : ℤ) → Inside rs g e → g +ℤ pos n ≡ e → (s : ℤ) → pairFound rs n m g e g s ≡ at g (firstLine (clearStripe rs m) s)
 stripe-found rs h n m g e w q s =
     stripe-pair n g e (clearPair rs n m) (λ y x k. clear-tracks-beyond rs h (from x m) (from y n) k) q s
-    ∙ ap (λ (f : ℤ → Bool). at g (firstLine f s)) (fun-ext (λ x. ap (λ (z : ℤ). clear rs (from x m) (lines g z)) q ∙ stripe-grid rs h g e w (from x m)))
+    ∙ ap (λ (z : ℤ). at g (firstLine (λ x. clear rs (from x m) (lines g z)) s)) q
+    ∙ ap (λ (x : ℤ). at g x) (stripe-line rs h m g e w s)

@@ -15,7 +15,7 @@ use Rattle.walk.specs.OnList.{freeIn}
 abbrev pub clear : List (Rec ℤ) → Lines → Lines → Bool
 clear rs tracks along = freeIn col rs (laid col tracks along)
 
--- the lines of the limited grid
+-- from the first line of the limited grid to the last
 abbrev pub wholeGrid : Lines
 wholeGrid = lines lowest highest
 

@@ -156,6 +156,10 @@ module _ (c : tie.In-loop Inv-loop μ-loop Inv-search μ-search) where
   below-is : below ≡ s +ℤ pos (height (c .before .before .before .before))
   below-is = omega (signed, cast-m (c .before .before .before .before .before .before), add-collision-jump c)
 
+  -- what is tried ends in the grid
+  ends-inside : right ≤ℤ ends (c .before .before .before .before)
+  ends-inside = omega signed
+
 -- a turn that goes on
 on : (c : tie.After-known-told Inv-loop μ-loop Inv-search μ-search)
     → let q = c .before .before .before .before in
@@ -231,7 +235,7 @@ returns-2 c =
     let q = k .before in
     let b = q .before .before .before in
     let a = b .before in
-    let found = pair-here (rs a) (keep a) (width a) (height a) (begins a) (ends a) (fits a) (p q) (s q) (right q) (below q) (below-is q) (right-is q) (omega signed)
+    let found = pair-here (rs a) (keep a) (width a) (height a) (begins a) (ends a) (fits a) (p q) (s q) (right q) (below q) (below-is q) (right-is q) (ends-inside q)
     (sym (k .collision-jump .ensures) ∙ c .enum-told .given .1) in
     sym (rw (toZ-ofZ (fit-start a), toZ-ofZ (fit-end a), toZ-ofZ (fit-primary a), toZ-ofZ (fit-secondary a)) at (b .search .inv .2 ∙ (q .before .loop .inv .1 ∙ found)))
 
