@@ -42,8 +42,9 @@ module _ (c : tie.After-starting-line) where
 
   begins : c .starting-line .result ≡ begin
   begins =
-      rw (toZ-ofZ (fit16 (z .args .s .start) (t .struct-told2 .given .0 .1)), toZ-ofZ (fit16 (g .implicit-start-line .result .0) (t .before .struct-told .given .0 .1)), g .implicit-start-line .ensures)
-      at (c .starting-line .ensures .1)
+      c .starting-line .ensures .1
+      ∙ (λ j. startOf (z .args .columns) (z .args .dense) (z .args .items .now) (z .args .answers .now) (toZ-ofZ (fit16 (z .args .s .start) (t .struct-told2 .given .0 .1)) j) (z .args .i)
+      ((toZ-ofZ (fit16 (g .implicit-start-line .result .0) (t .before .struct-told .given .0 .1)) ∙ g .implicit-start-line .ensures) j))
 
   begin-high : begin ≤ℤ pos 10000
   begin-high = z .pre .1 .1 .1 .1 .1
