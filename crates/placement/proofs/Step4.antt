@@ -28,7 +28,7 @@ use Rattle.walk.proofs.LinesLaws.{start-low, start-high}
 use Rattle.walk.proofs.Cells.{records-rules}
 use Rattle.walk.proofs.FreeLaws.{chooseLine-rule, choosePair-rule}
 use Rattle.walk.proofs.WalkLaws.{Fair, kept-laid, put-going}
-use Rattle.walk.proofs.Range.{Good, lines-good, span-good, Within, WithinArea, CursorIn, within-pair, GoodItem, Run4, run4-item}
+use Rattle.walk.proofs.Range.{Good, lines-good, span-good, Within, WithinArea, CursorIn, within-pair, GoodItem, run4-item}
 use Rattle.walk.proofs.Loops.{each-next, each-stop, each-end}
 use Rattle.walk.proofs.Checks.{halves-length}
 use Rattle.searching.specs.Clear.{clear, Inside}
@@ -43,7 +43,7 @@ use Rattle.placement.specs.declared.Stepped.the-variants.{Done, Refused}
 use Rattle.placement.specs.declared.rest.Turn.{Turn}
 use Rattle.placement.specs.declared.rest.Turn.the-variants.{On, Short}
 use Rattle.placement.specs.Laying.{Laying}
-use Rattle.placement.specs.Ready.{settingFor, Ready, Stopped, AfterItem, AfterStep, Items, primaryOf, secondaryOf}
+use Rattle.placement.specs.Ready.{settingFor, Ready, AfterItem, AfterStep, Items, primaryOf, secondaryOf}
 use Rattle.placement.specs.Cursor.{placeOf, startOn, lineOn, pairOn, turnOf, AfterTurn}
 use Rattle.placement.proofs.Lays.{put-laid, primary-recs, secondary-recs}
 

@@ -67,7 +67,8 @@ fn spanned(line: i16, span: u16) -> Lines
     }
 }
 
-// From which secondary line on an item with fixed primary lines, of which `a` is the first, is tried.
+// The secondary line from which on an item with fixed primary lines, of which `a` is the first, is tried. Sparse never goes back: on
+// the cursor's line an item lies at the cursor or past it.
 fn start_line(dense: bool, cursor: Pair, counts: TrackCounts, a: i16) -> i16
     requires { ⌜ Sound counts ⌝ }
     requires { ⌜ CursorIn 1999 (placeOf cursor) ⌝ }
@@ -104,8 +105,8 @@ fn settle_line(
     spanned(line, span)
 }
 
-// The secondary line of an item that is too wide for the grid, which starts at `start`. The cursor's own line may be taken up to the
-// cursor.
+// The secondary line of an item that is too wide for the grid, whose first line is `start`. The item starts there, which is behind a
+// cursor that stands further on: then it goes one line further.
 fn untested_line(cursor: Pair, start: i16) -> i16
     requires { ⌜ CursorIn 1999 (placeOf cursor) ⌝ }
     ensures { λ r. ⌜ r ≡ untestedLine cursor start ⌝ }
@@ -116,8 +117,8 @@ fn untested_line(cursor: Pair, start: i16) -> i16
     cursor.secondary + 1
 }
 
-// The place of an item that takes n primary and m secondary tracks wherever they are free. One that the grid is too narrow for would
-// be looked for without end: it is laid untested, and marked.
+// The place of an item that takes n primary and m secondary tracks wherever they are free. On no secondary line is there a place for
+// one that is wider than the grid, however far a search goes: it is laid untested, and marked.
 fn settle_pair(cursor: Pair, matrix: Matrix, n: u16, m: u16, secondary: &[i16]) -> Settled
     requires { ⌜ Holds (now secondary) (matrix .«secondary_used») ⌝ }
     requires { ⌜ Sound (matrix .primary) ⌝ }
@@ -140,8 +141,11 @@ fn settle_pair(cursor: Pair, matrix: Matrix, n: u16, m: u16, secondary: &[i16]) 
         return Settled { place, flags: 4 };
     }
     let grid = Lines { start, end };
-    let place = first_free_pair(secondary, matrix.secondary_used, grid, n, m, cursor);
-    Settled { place, flags: 0 }
+    let found = first_free_pair(secondary, matrix.secondary_used, grid, n, m, cursor);
+    Settled {
+        place: found,
+        flags: 0,
+    }
 }
 
 // Sparse goes on behind the item, as it was before limiting; dense goes back to the lines read once, however the grid has grown.
@@ -156,6 +160,7 @@ fn next_cursor(dense: bool, once: Pair, p: Lines, s: Lines) -> Pair
     Pair { primary, secondary }
 }
 
+// What laying an item's tile came to, with the cursor for the next item.
 fn turned(laid: Laid, cursor: Pair) -> Turn
     ensures { λ r. ⌜ r ≡ turnOf laid cursor ⌝ }
 {
@@ -229,8 +234,8 @@ fn place_on_pair(
     turned(laid, next_cursor(dense, once, p, s))
 }
 
-// Item i, unless its secondary lines are fixed: then an earlier step has laid it. `once` are the grid start lines as they were
-// before this step.
+// Item i, unless its secondary lines are fixed: then an earlier step has laid it. `once` holds the grid start lines as they were before
+// this step.
 fn place_indefinitely_positioned_item(
     columns: bool,
     dense: bool,

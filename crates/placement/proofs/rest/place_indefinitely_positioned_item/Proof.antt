@@ -1,11 +1,9 @@
 -- `place_indefinitely_positioned_item` meets its contract: an item with fixed secondary lines stays, any other is laid by a line or by a pair.
 use borrow.Author.Needs.{needs}
 use mathlib.Core.Path.{_≡_, sym, ap, subst, _∙_}
-use mathlib.Core.Bool.{Bool, true}
-use mathlib.Core.List.{List}
+use mathlib.Core.Bool.{true}
 use Prim.Native.Nat.{ℕ}
 use native.Mathlib.Omega.{arith}
-use lib.IntN.{ℤ}
 use Rattle.walk.specs.Axis.{Axis, on, other}
 use Rattle.walk.specs.Request.{itemOf, goodItem}
 use Rattle.walk.specs.declared.Placement.{Placement}

@@ -1,14 +1,11 @@
 -- `place_on_pair` meets its contract. Its sums fit since the place that is settled is the walk's, whatever board the lists stand for.
 use borrow.Author.Needs.{needs}
 use mathlib.Core.Path.{_≡_, refl, ap, _∙_}
-use native.Mathlib.Omega.{arith}
 use lib.IntN.{ℤ, pos, _+ℤ_}
 use mir.Syntax.{w16}
 use mir.Val.{SFits}
 use mir.Facts.{toZ-ofZ}
 use Rattle.signed.proofs.Laws.{signed, fit16}
-use Rattle.coordinates.specs.declared.Lines.{Lines}
-use Rattle.grid_track_counts.specs.declared.TrackCounts.{TrackCounts}
 use Rattle.walk.specs.Axis.{from}
 use Rattle.walk.specs.Walk.{overwide}
 use Rattle.searching.specs.declared.Pair.{Pair}

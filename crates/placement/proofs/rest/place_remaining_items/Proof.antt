@@ -1,9 +1,8 @@
 -- `place_remaining_items` meets its contract: the loop goes along what is left of the step, with the cursor.
 use borrow.Author.Needs.{needs}
 use mathlib.Core.Path.{_≡_, refl, _∙_}
-use Prim.Native.Nat.{ℕ, _+_, _-_, _/_, _≤_}
+use Prim.Native.Nat.{_-_, _/_, _≤_}
 use native.Mathlib.Omega.{arith}
-use lib.IntN.{ℤ}
 use lib.ListN.{length}
 use mir.Syntax.{w16}
 use mir.Val.{toZ, ofZ}
@@ -12,7 +11,6 @@ use Rattle.signed.proofs.Laws.{fit16}
 use Rattle.grid_track_counts.specs.Counts.{gridStart}
 use Rattle.walk.specs.Search.{at}
 use Rattle.searching.specs.declared.Pair.{Pair}
-use Rattle.placement.specs.Ready.{Items}
 use Rattle.placement.specs.Cursor.{placeOf}
 use Rattle.placement.proofs.Lays.{Lengths, sound-primary, sound-secondary, items-upto}
 use Rattle.placement.proofs.Step4.{Going, once-is-near, near-all, going-none, going-on, going-stops, going-done}

@@ -1,6 +1,6 @@
 -- `untested_line` meets its contract.
 use mathlib.Core.Path.{_≡_}
-use mathlib.Core.Bool.{true, false}
+use mathlib.Core.Bool.{true}
 use mir.Syntax.{w16}
 use mir.Facts.{toZ-ofZ}
 use Rattle.signed.specs.Parts.{eqZ}
