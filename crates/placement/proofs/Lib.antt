@@ -4,3 +4,4 @@ pub mod Step1
 pub mod Step2
 pub mod Step4
 pub mod Runs
+pub mod Outcomes

@@ -3,3 +3,4 @@ pub mod Ready
 pub mod Ends
 pub mod Cursor
 pub mod Runs
+pub mod Placing

@@ -2,6 +2,7 @@
 // and the secondary list; counts and how many records each list holds go by value beside them.
 use grid_track_counts::TrackCounts;
 
+pub mod checked;
 pub mod definite;
 pub mod lay;
 pub mod rest;
