@@ -4,3 +4,4 @@ pub mod Painting
 pub mod Outcome
 pub mod ListPromises
 pub mod Cases
+pub mod Placed

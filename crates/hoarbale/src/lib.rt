@@ -2,3 +2,4 @@
 // not take, and then calls one inner function.
 pub mod lines;
 pub mod lists;
+pub mod placing;

@@ -1,13 +1,22 @@
-// Calls on one list: the two jumps, and the records of a track.
+// Calls on one list: painting, the two jumps, and the records of a track.
 ghost use mathlib.Core.Path.{_≡_};
 ghost use Rattle.cell_occupancy.specs.Calls.{recordsOfTrack};
-ghost use Rattle.hoarbale.specs.Lists.{checkedOf, jumpAnswer, collisionAnswer, occupiedAnswer};
+ghost use Rattle.intervals.specs.Lists.{goodArea};
+ghost use Rattle.cell_painting.specs.Painting.{areaOf};
+ghost use Rattle.hoarbale.specs.Lists.{checkedOf, paintAnswer, paintLeft, jumpAnswer, collisionAnswer, occupiedAnswer};
 use cell_occupancy::jumps::Jump;
 use cell_occupancy::rules::Used;
+use cell_painting::Painted;
 
 // How many records a list holds, or why it is not taken.
 enum Checked {
     Records(usize),
+    Refused(u8),
+}
+
+// Whether the area was painted, or a refusal's number.
+pub enum PaintAnswer {
+    Painted,
     Refused(u8),
 }
 
@@ -32,6 +41,70 @@ fn checked_list(list: &[i16]) -> Checked
     match held {
         Used::Records(n) => Checked::Records(n),
         Used::Broken => Checked::Refused(9),
+    }
+}
+
+// Both pairs in order, a state, and lines inside the limited grid.
+fn good_area(track_start: i16, track_end: i16, start: i16, end: i16, state: i16) -> bool
+    ensures { λ r. ⌜ r ≡ goodArea (areaOf «track_start» «track_end» start end state) ⌝ }
+{
+    if track_end <= track_start {
+        return false;
+    }
+    if end <= start {
+        return false;
+    }
+    if state < 1 {
+        return false;
+    }
+    if 2 < state {
+        return false;
+    }
+    if track_start < -10000 {
+        return false;
+    }
+    if 10000 < track_end {
+        return false;
+    }
+    if start < -10000 {
+        return false;
+    }
+    end <= 10000
+}
+
+// Paints one area: the tracks track_start..track_end and the lines start..end. A refused area leaves the list as it was.
+pub fn paint(
+    list: &mut [i16],
+    track_start: i16,
+    track_end: i16,
+    start: i16,
+    end: i16,
+    state: i16,
+) -> PaintAnswer
+    ensures { λ r. ⌜ r ≡ paintAnswer (now (list .entry)) (areaOf «track_start» «track_end» start end state) ⌝ }
+    ensures { λ _. ⌜ now (list .exit) ≡ paintLeft (now (list .entry)) (areaOf «track_start» «track_end» start end state) ⌝ }
+{
+    let checked = checked_list(list);
+    match checked {
+        Checked::Refused(number) => PaintAnswer::Refused(number),
+        Checked::Records(used) => {
+            if good_area(track_start, track_end, start, end, state) {
+                let painted = cell_painting::paint(
+                    list,
+                    used,
+                    track_start,
+                    track_end,
+                    start,
+                    end,
+                    state,
+                );
+                return match painted {
+                    Painted::Used(_) => PaintAnswer::Painted,
+                    Painted::NoRoom => PaintAnswer::Refused(7),
+                };
+            }
+            PaintAnswer::Refused(10)
+        }
     }
 }
 
