@@ -44,6 +44,7 @@ spanned-requires c κs =
     let s = begun d in
     let f = fit16 (c .first-free-line .result) (c .first-free-line .ok) in
     let n = subst Near (sym (c .first-free-line .ensures)) (line-near (recs (s .args .matrix .«primary_used») (s .args .primary .now)) (s .pre .0 .keep) (s .args .p) (s .args .span) (toZ w16 (ofZ w16 (d .start-line .result))) (near d)) in
+    let m = near d in
     (s .pre .1 .1 .1 .0 .1, omega signed)
 
 returns : tie.Need-returns
