@@ -12,7 +12,7 @@ struct CCounts {
 #[repr(C)]
 struct PlaceAnswer {
     number: u8,
-    index: u16,
+    index: usize,
     columns: CCounts,
     rows: CCounts,
 }
@@ -74,7 +74,7 @@ pub fn place(
         }
         number => {
             assert_eq!(counts, [[0; 3]; 2], "refused counts are 0");
-            Err((number, answer.index))
+            Err((number, answer.index as u16))
         }
     }
 }
