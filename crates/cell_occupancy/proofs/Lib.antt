@@ -10,5 +10,4 @@ pub mod Cells
 pub mod Collisions
 pub mod Occupied
 pub mod Promises
-pub mod Search
 pub mod Examples

@@ -6,9 +6,7 @@ use Prim.Native.Nat.{ℕ, suc, _+_, _-_, _*_, _<_, _≤_}
 use lib.ListN.{length, getD, take, drop}
 use lib.IntN.{ℤ, pos, negsuc, _+ℤ_}
 use lib.Signed.{ltZ, _≤ℤ_, _<ℤ_}
-use Rattle.intervals.specs.Records.{Rec, same}
-use Rattle.cell_occupancy.specs.Calls.{collisionJump}
-use Rattle.cell_occupancy.specs.declared.jumps.Jump.the-variants as J
+use Rattle.intervals.specs.Records.{same}
 
 -- the numbers of record i
 abbrev pub trackNo : List ℤ → ℕ → ℤ
@@ -88,8 +86,3 @@ pub record Tail (l : List ℤ) (from to : ℕ) (r : List ℤ) : Type 0 where
 pub record Ascends (l : List ℤ) (n : ℕ) : Type 0 where
   pub order : (i : ℕ) → i < n → startNo l i <ℤ endNo l i
   pub next : (i : ℕ) → suc i < n → endNo l i ≤ℤ startNo l (suc i)
-
--- a search upward: no line from start on before `line` has its area free
-pub record Searched (rs : List (Rec ℤ)) (t₁ t₂ start span line : ℤ) : Type 0 where
-  pub low : start ≤ℤ line
-  pub before : (p : ℤ) → start ≤ℤ p → p <ℤ line → collisionJump rs t₁ t₂ p (p +ℤ span) ≡ J.Free → ⊥

@@ -2,12 +2,11 @@
 ghost use mathlib.Core.Path.{_≡_};
 ghost use Prim.Native.Nat.{_/_};
 ghost use lib.ListN.{length};
-ghost use lib.IntN.{ℤ, pos, _+ℤ_};
-ghost use lib.Signed.{_≤ℤ_, _<ℤ_};
+ghost use lib.IntN.{ℤ};
+ghost use lib.Signed.{_<ℤ_};
 ghost use Rattle.intervals.specs.Lists.{Holds, recs};
-ghost use Rattle.cell_occupancy.specs.declared.jumps.Jump.the-variants as J;
 ghost use Rattle.cell_occupancy.specs.Calls.{extentOf, larger, collisionJump, occupiedJump};
-ghost use Rattle.cell_occupancy.specs.Inner.{Ascends, Searched};
+ghost use Rattle.cell_occupancy.specs.Inner.{Ascends};
 use crate::rules::number;
 use crate::tracks::last_track;
 use crate::tracks::lower;
@@ -103,29 +102,4 @@ pub fn occupied_track_jump(list: &[i16], used: usize, track_start: i16, track_en
         return Jump::Free;
     }
     Jump::Next(track + 1)
-}
-
-// The first line from `start` on at which an area of `span` lines over the tracks is free, by jumps.
-pub fn first_free(
-    list: &[i16],
-    used: usize,
-    track_start: i16,
-    track_end: i16,
-    start: i16,
-    span: i16,
-) -> i16
-    requires { ⌜ Holds (now list) used ⌝ }
-    requires { ⌜ «track_start» <ℤ «track_end» ⌝ }
-    requires { ⌜ (pos 1 ≤ℤ span) × ((span ≤ℤ pos 10000) × (start ≤ℤ pos 22000)) ⌝ }
-    ensures { λ r. ⌜ collisionJump (recs used (now (list .entry))) «track_start» «track_end» r (r +ℤ span) ≡ J.Free ⌝ }
-    ensures { λ r. ⌜ Searched (recs used (now (list .entry))) «track_start» «track_end» start span r ⌝ }
-{
-    let mut line = start;
-    loop {
-        let jump = collision_jump(list, used, track_start, track_end, line, line + span);
-        let Jump::Next(e) = jump else {
-            return line;
-        };
-        line = e;
-    }
 }
