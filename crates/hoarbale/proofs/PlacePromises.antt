@@ -7,7 +7,6 @@ use mathlib.Core.List.{List, [], _∷_, _++_, map, append-assoc}
 use mathlib.Core.Option.{Option, none, some}
 use Prim.Native.Nat.{ℕ, zero, suc, _+_, _*_, _/_, _%_, _≤_, _<_}
 use native.Mathlib.Omega.{arith}
-use borrow.Author.Tests.{eqb-true, eqb-false}
 use lib.Dec.{eqb, ltb}
 use lib.IntN.{ℤ, pos}
 use lib.ListN.{length, take, drop, replicate, getD, length-append, length-replicate, List·getD-map}
@@ -384,21 +383,12 @@ module _ (c : Call) (x : Back) (meets : Meets c x) where
     -- ---- "the lists, whose cells come from the paint history": the tiles' areas, in the order placed, painted one after the other through the list call
     -- on an empty list; each is accepted. So what ListPromises says of a series is said of these lists.
 
-    coloured : {ts : List Tile} → WithStates w ts → Coloured ts
-    unfolding settingOf
-    coloured nil = nil
-    coloured (more {x = t} h hs) = more (go (eqb (t .step) 1) refl) (coloured hs)
-      where
-        go : (y : Bool) → eqb (t .step) 1 ≡ y → ok (t .state) ≡ true
-        go true i = rw (h .first (eqb-true (t .step) 1 i))
-        go false i = rw (h .others (eqb-false (t .step) 1 i))
-
     roomed : (z : Axis) → Roomed z (on z (q .lists)) (b .tiles)
     unfolding settingOf runOf
     roomed z = run-roomed z w (growthOf q) (queueOf q) (startOf q) b R.none (ran .run)
 
     painted : (z : Axis) (n : ℕ) → LengthRight n → Roomed z n (b .tiles) → Painted z n (b .tiles)
-    painted z n h r = one-by-one z n h (b .tiles) (W.tiles-in-grid q (ran .passed) b (ran .run)) (coloured (W.states q (ran .passed) b (ran .run))) r
+    painted z n h r = one-by-one z n h (b .tiles) (W.tiles-in-grid q (ran .passed) b (ran .run)) (W.coloured q (ran .passed) b (ran .run) (W.states q (ran .passed) b (ran .run))) r
 
     on-rows : Painted row (length (c .rowList)) (b .tiles)
     on-rows = painted row (length (c .rowList)) (checked-passes q (ran .passed) .lists .rows) (roomed row)
