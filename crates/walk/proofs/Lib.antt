@@ -14,6 +14,6 @@ pub mod Ruled
 pub mod Origins
 pub mod Answers
 pub mod Promises
-pub mod Boards
+mod Case
 mod Limits
 mod Telling

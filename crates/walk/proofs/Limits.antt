@@ -1,21 +1,15 @@
--- Board 2, and the checks at their limits, as tables.
+-- The checks at their limits, as a table.
 use mathlib.Core.Path.{_≡_, refl}
 use mathlib.Core.List.{List, [], _∷_, map}
-use lib.IntN.{ℤ, pos, negsuc}
+use lib.IntN.{ℤ, pos}
 use lib.ListN.{replicate}
 use Rattle.intervals.specs.OverInt.{span}
-use Rattle.coordinates.specs.Line.{lines, limited, pressed, clampTo}
+use Rattle.coordinates.specs.Line.{limited, pressed, clampTo}
 use Rattle.grid_track_counts.specs.Counts.{grown, countsGood}
 use Rattle.walk.specs.Search.{lineFrom, firstLine, among, pairFrom, placesTo, firstPair}
 use Rattle.walk.specs.Walk.{free, tileOf, laidOn, recordsOn, short, judged, put, choose1, step1, endsOn, largest, largestOr, start2, choose2, step2, moved, start4, chooseLine, overwide, pairOf, untested, choosePair, step4, each, begin4, last4, walk}
 use Rattle.walk.specs.Request.{refused, answered, halves, goodHalf, badFrom, placingOf, itemOf, lengthGood, checked, settingOf, upTo, queue, runOf, numbers, answerOf, answersOf, told, outcome}
-use Rattle.walk.proofs.Boards.{counts, request, Case, case}
-
--- board 2: -20000..-19999, 9999..10001, -12000..12000
-limiting : map limited (lines (negsuc 19999) (negsuc 19998) ∷ lines (pos 9999) (pos 10001) ∷ lines (negsuc 11999) (pos 12000) ∷ [])
-    ≡ lines (negsuc 9999) (negsuc 9998) ∷ lines (pos 9999) (pos 10000) ∷ lines (negsuc 9999) (pos 10000) ∷ []
-unfolding limited clampTo
-limiting = refl
+use Rattle.walk.proofs.Case.{counts, request, Case, case}
 
 abbrev none : List ℤ
 none = []

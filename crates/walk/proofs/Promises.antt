@@ -172,7 +172,7 @@ module _ (r : Request) (passed : checked r ≡ none) (b : Board) (run : runOf r 
   pub states : WithStates (settingOf r) (b .tiles)
   states = states-kept (settingOf r) (growthOf r) (queueOf r) (startOf r) b nil e
 
-  coloured : {ts : List Tile} → WithStates (settingOf r) ts → Coloured ts
+  pub coloured : {ts : List Tile} → WithStates (settingOf r) ts → Coloured ts
   unfolding settingOf
   coloured nil = nil
   coloured (more {x = t} h hs) = more (go (eqb (t .step) 1) refl) (coloured hs)

@@ -8,7 +8,7 @@ use Rattle.grid_track_counts.specs.Counts.{grown, countsGood}
 use Rattle.walk.specs.Search.{lineFrom, firstLine, among, pairFrom, placesTo, firstPair}
 use Rattle.walk.specs.Walk.{free, tileOf, laidOn, recordsOn, short, judged, put, choose1, step1, endsOn, largest, largestOr, start2, choose2, step2, moved, start4, chooseLine, overwide, pairOf, untested, choosePair, step4, each, begin4, last4, walk}
 use Rattle.walk.specs.Request.{refused, answered, halves, goodHalf, badFrom, placingOf, itemOf, lengthGood, checked, settingOf, upTo, queue, runOf, numbers, answerOf, answersOf, told, outcome}
-use Rattle.walk.proofs.Boards.{counts, request, Case, case}
+use Rattle.walk.proofs.Case.{counts, request, Case, case}
 
 abbrev telling : List Case
 telling =
