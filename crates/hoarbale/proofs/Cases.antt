@@ -68,9 +68,15 @@ placed f columns rows items n m told =
 abbrev pub counts : ℕ → ℕ → ℕ → TrackCounts
 counts a b c = record { negative = a; explicit = b; positive = c }
 
--- an item of two spans, columns first
+-- three numbers of an item, for its columns and then for its rows: fixed lines, or a span; and an item of two spans
+abbrev pub fixed : ℤ → ℤ → List ℤ
+fixed a b = pos 0 ∷ a ∷ b ∷ []
+
+abbrev pub tracks : ℕ → List ℤ
+tracks n = pos 1 ∷ pos n ∷ pos 0 ∷ []
+
 abbrev pub spans : ℕ → ℕ → List ℤ
-spans a b = pos 1 ∷ pos a ∷ pos 0 ∷ pos 1 ∷ pos b ∷ pos 0 ∷ []
+spans a b = tracks a ++ tracks b
 
 -- five numbers of an answer, and four of a record
 abbrev pub five : ℤ → ℤ → ℤ → ℤ → ℕ → List ℤ
@@ -123,21 +129,20 @@ table =
     ++ four (pos 0) (pos 0) (pos 3) 2 ++ four (pos 1) (pos 0) (pos 2) 2 ++ free
     ++ four (pos 0) (pos 0) (pos 2) 2 ++ four (pos 1) (pos 0) (pos 2) 2 ++ four (pos 2) (pos 0) (pos 1) 2 ++ free)
     -- 7
-    ∷ placed 0 (counts 0 2 0) (counts 0 1 0) (pos 0 ∷ pos 0 ∷ pos 1 ∷ pos 0 ∷ pos 0 ∷ pos 1 ∷ spans 3 1) 8 16
+    ∷ placed 0 (counts 0 2 0) (counts 0 1 0) (fixed (pos 0) (pos 1) ++ fixed (pos 0) (pos 1) ++ spans 3 1) 8 16
     (fine (counts 0 2 1) (counts 0 1 0)
     ++ five (pos 0) (pos 1) (pos 0) (pos 1) 2 ++ five (pos 0) (pos 3) (pos 0) (pos 1) 4
     ++ four (pos 0) (pos 0) (pos 3) 2 ++ free
     ++ four (pos 0) (pos 0) (pos 1) 2 ++ four (pos 1) (pos 0) (pos 1) 2 ++ four (pos 2) (pos 0) (pos 1) 2 ++ free)
     -- 8
     ∷ placed 0 (counts 0 4 0) (counts 0 2 0)
-    (pos 0 ∷ pos 0 ∷ pos 1 ∷ pos 0 ∷ pos 0 ∷ pos 1 ∷ pos 1 ∷ pos 1 ∷ pos 0 ∷ pos 0 ∷ pos 0 ∷ pos 2 ∷ pos 1 ∷ pos 1 ∷ pos 0 ∷ pos 0 ∷ pos 1 ∷ pos 2 ∷ pos 1 ∷ pos 1 ∷ pos 0 ∷ pos 0 ∷ pos 0 ∷ pos 1 ∷ [])
-    16 20
+    (fixed (pos 0) (pos 1) ++ fixed (pos 0) (pos 1) ++ tracks 1 ++ fixed (pos 0) (pos 2) ++ tracks 1 ++ fixed (pos 1) (pos 2) ++ tracks 1 ++ fixed (pos 0) (pos 1)) 16 20
     (fine (counts 0 4 0) (counts 0 2 0)
     ++ five (pos 0) (pos 1) (pos 0) (pos 1) 2 ++ five (pos 1) (pos 2) (pos 0) (pos 2) 0 ++ five (pos 0) (pos 1) (pos 1) (pos 2) 0 ++ five (pos 2) (pos 3) (pos 0) (pos 1) 0
     ++ four (pos 0) (pos 0) (pos 1) 1 ++ four (pos 0) (pos 1) (pos 3) 2 ++ four (pos 1) (pos 0) (pos 2) 2 ++ free
     ++ four (pos 0) (pos 0) (pos 1) 1 ++ four (pos 0) (pos 1) (pos 2) 2 ++ four (pos 1) (pos 0) (pos 2) 2 ++ four (pos 2) (pos 0) (pos 1) 2 ++ free)
     -- 9
-    ∷ placed 2 (counts 0 1 0) (counts 0 0 0) (pos 0 ∷ negsuc 1 ∷ negsuc 0 ∷ pos 1 ∷ pos 1 ∷ pos 0 ∷ spans 1 1) 12 12
+    ∷ placed 2 (counts 0 1 0) (counts 0 0 0) (fixed (negsuc 1) (negsuc 0) ++ tracks 1 ++ spans 1 1) 12 12
     (fine (counts 2 1 0) (counts 0 0 1)
     ++ five (negsuc 1) (negsuc 0) (pos 0) (pos 1) 0 ++ five (pos 0) (pos 1) (pos 0) (pos 1) 0
     ++ four (pos 0) (negsuc 1) (negsuc 0) 2 ++ four (pos 0) (pos 0) (pos 1) 2 ++ free
