@@ -1,0 +1,18 @@
+use borrow.Author.Needs.{needs}
+use Rattle.board_file.proofs.placing.answer.Statement.{statement}
+use Rattle.board_file.proofs.placing.answer.Tie as tie
+
+enum-known-placed : tie.Need-enum-known-placed
+enum-known-placed c = search needs
+
+enum-known-placed-2 : tie.Need-enum-known-placed-2
+enum-known-placed-2 c = search needs
+
+returns : tie.Need-returns
+returns c = ?
+
+returns-2 : tie.Need-returns-2
+returns-2 c = ?
+
+pub answer-spec : {M : Type 1} → statement M
+answer-spec = tie.close (tie.spec enum-known-placed enum-known-placed-2 returns returns-2)
