@@ -8,17 +8,18 @@ use native.Mathlib.Omega.{arith}
 use borrow.Author.Tests.{leb-true, eqb-true, lt-ltb, le-ltb, lt-leb, le-leb, eq-eqb, ne-eqb}
 use lib.Dec.{eqb, leb, ltb}
 use lib.IntN.{ℤ}
-use lib.ListN.{length, getD, drop}
+use lib.ListN.{length, getD, take, drop}
 use Rattle.intervals.proofs.Grid.{and-l, and-r, and-i}
-use Rattle.walk.specs.Request.{Request, Refusal, checked, outcome, answersLeft, rowsLeft, columnsLeft, no}
+use Rattle.walk.specs.Request.{Request, Refusal, Outcome, checked, outcome, answersLeft, rowsLeft, columnsLeft, no}
 use Rattle.walk.proofs.Promises.{checks-refuse, refusal-unchanged}
 use Rattle.request.specs.Items.{requestOf}
+use Rattle.placement.specs.declared.checked.Placing.{Placing}
 use Rattle.placement.specs.Placing.{placingOf}
 use Rattle.board_file.specs.declared.header.Head.{Head}
 use Rattle.board_file.specs.declared.header.FileHeader.the-variants as H
 use Rattle.board_file.specs.declared.placing.FileAnswer.the-variants as A
 use Rattle.board_file.specs.File.{wordAt, lengthTold, numbers, countsAt, headOf, itemsIn, goodFile, headerOf, requestIn, fileOutcome, answerOf, fileAnswersLeft, fileRowsLeft, fileColumnsLeft, fileItemsLeft}
-use Rattle.board_file.proofs.Words.{length-numbers}
+use Rattle.board_file.proofs.Words.{length-numbers, take-numbers}
 
 -- ---- the header
 
@@ -35,17 +36,36 @@ module _ (bs : List ℕ) where
   unfolding goodFile
   short h = bad (rw (lt-leb 20 (length bs) h) refl)
 
+  -- the four tests, and those behind each
+  abbrev long : Bool
+  long = leb 20 (length bs)
+
+  abbrev whole : Bool
+  whole = eqb (length bs) (4 + lengthTold bs)
+
+  abbrev counted : Bool
+  counted = eqb (lengthTold bs) (16 + 12 * wordAt bs 18)
+
+  abbrev version : Bool
+  version = eqb (getD bs 4 0) 1
+
   pub other-length : (length bs ≡ 4 + lengthTold bs → ⊥) → H.Refused ≡ headerOf bs
   unfolding goodFile
-  other-length h = bad (and-no _ _ (rw (ne-eqb (length bs) (4 + lengthTold bs) h) refl))
+  other-length h =
+      let e : whole && (counted && version) ≡ false = rw (ne-eqb (length bs) (4 + lengthTold bs) h) refl in
+      bad (and-no long (whole && (counted && version)) e)
 
   pub other-count : (lengthTold bs ≡ 16 + 12 * wordAt bs 18 → ⊥) → H.Refused ≡ headerOf bs
   unfolding goodFile
-  other-count h = bad (and-no _ _ (and-no _ _ (rw (ne-eqb (lengthTold bs) (16 + 12 * wordAt bs 18) h) refl)))
+  other-count h =
+      let e : counted && version ≡ false = rw (ne-eqb (lengthTold bs) (16 + 12 * wordAt bs 18) h) refl in
+      bad (and-no long (whole && (counted && version)) (and-no whole (counted && version) e))
 
   pub other-version : (getD bs 4 0 ≡ 1 → ⊥) → H.Refused ≡ headerOf bs
   unfolding goodFile
-  other-version h = bad (and-no _ _ (and-no _ _ (and-no _ _ (ne-eqb (getD bs 4 0) 1 h))))
+  other-version h =
+      let e = ne-eqb (getD bs 4 0) 1 h in
+      bad (and-no long (whole && (counted && version)) (and-no whole (counted && version) (and-no counted version e)))
 
   pub agrees : 20 ≤ length bs → length bs ≡ 4 + lengthTold bs → lengthTold bs ≡ 16 + 12 * wordAt bs 18 → getD bs 4 0 ≡ 1 → goodFile bs ≡ true
   unfolding goodFile
@@ -75,9 +95,9 @@ module _ (bs : List ℕ) where
   pub good-length : goodFile bs ≡ true → length bs ≡ 20 + 12 * wordAt bs 18
   unfolding goodFile
   good-length g =
-      let r = and-r _ _ g in
-      let a = eqb-true (length bs) (4 + lengthTold bs) (and-l _ _ r) in
-      let b = eqb-true (lengthTold bs) (16 + 12 * wordAt bs 18) (and-l _ _ (and-r _ _ r)) in
+      let r = and-r long (whole && (counted && version)) g in
+      let a = eqb-true (length bs) (4 + lengthTold bs) (and-l whole (counted && version) r) in
+      let b = eqb-true (lengthTold bs) (16 + 12 * wordAt bs 18) (and-l counted version (and-r whole (counted && version) r)) in
       omega arith
 
   pub head-count : (h : Head) → h ≡ headOf bs → h .count ≡ wordAt bs 18
@@ -124,8 +144,8 @@ module _ (bs : List ℕ) where
     unfolding checked
     count-refused h k =
         let l = length-items in
-        let e : eqb (length (itemsIn bs) % 6) 0 ≡ true = eq-eqb _ 0 (omega arith) in
-        let f : ltb 2000 (length (itemsIn bs) / 6) ≡ true = lt-ltb 2000 _ (omega arith) in
+        let e : eqb (length (itemsIn bs) % 6) 0 ≡ true = eq-eqb (length (itemsIn bs) % 6) 0 (omega arith) in
+        let f : ltb 2000 (length (itemsIn bs) / 6) ≡ true = lt-ltb 2000 (length (itemsIn bs) / 6) (omega arith) in
         rw (le-ltb 3 (getD bs 5 0) h, e, f) refl
 
     many-items : 2000 < wordAt bs 18 → (old : List ℤ) → old ≡ fileItemsLeft bs old
@@ -142,9 +162,38 @@ module _ (bs : List ℕ) where
         × ((is ≡ fileItemsLeft bs is) × ((zs ≡ fileAnswersLeft bs a c r zs) × ((rs ≡ fileRowsLeft bs a c r rs) × (cs ≡ fileColumnsLeft bs a c r cs))))
     many-refused x n is zs rs cs k e =
         let o = checks-refuse (requestIn bs a c r) (x .number) (x .index) e in
-        let l = refusal-unchanged (requestIn bs a c r) x e in
-        (ap (λ v. answerOf n (placingOf v)) (sym o ∙ good-outcome),
-        (many-items k is, (sym (l .in-answers zs) ∙ good-answers zs, (sym (l .in-rows rs) ∙ good-rows rs, sym (l .in-columns cs) ∙ good-columns cs))))
+        let l = refusal-unchanged (requestIn bs a c r) x e in (
+          ap (λ (v : Outcome). answerOf n (placingOf v)) (sym o ∙ good-outcome),
+          (many-items k is, (sym (l .in-answers zs) ∙ good-answers zs, (sym (l .in-rows rs) ∙ good-rows rs, sym (l .in-columns cs) ∙ good-columns cs))),
+        )
+
+    -- the numbers read, as the door gets them
+    pub read-whole : (h : Head) (is d : List ℤ) → h ≡ headOf bs → is ≡ numbers bs 20 (6 * h .count) ++ d → take (6 * h .count) is ≡ itemsIn bs
+    unfolding itemsIn
+    read-whole h is d e f =
+        ap (take (6 * h .count)) f ∙ take-numbers bs d 20 (6 * h .count) ∙ ap (λ (n : ℕ). numbers bs 20 (6 * n)) (head-count h e)
+
+    pub read-left : (h : Head) (is old : List ℤ) → h ≡ headOf bs → h .count ≤ 2000 → is ≡ numbers bs 20 (6 * h .count) ++ drop (6 * h .count) old → is ≡ fileItemsLeft bs old
+    unfolding itemsIn
+    read-left h is old e k f =
+        let n = head-count h e in
+        f ∙ ap (λ (m : ℕ). numbers bs 20 (6 * m) ++ drop (6 * m) old) n ∙ few-items (omega arith) old
+
+    -- what the door gives for them
+    pub door : (q : Request) (p : Placing) (n : ℕ) (z zs r₁ rs c₁ cs : List ℤ) → q ≡ requestIn bs a c r
+        → (p ≡ placingOf (outcome q)) × ((z ≡ answersLeft q zs (outcome q)) × ((r₁ ≡ rowsLeft q rs (outcome q)) × (c₁ ≡ columnsLeft q cs (outcome q))))
+        → (answerOf n p ≡ answerOf n (placingOf (fileOutcome bs a c r)))
+        × ((z ≡ fileAnswersLeft bs a c r zs) × ((r₁ ≡ fileRowsLeft bs a c r rs) × (c₁ ≡ fileColumnsLeft bs a c r cs)))
+    door q p n z zs r₁ rs c₁ cs e l = (
+      ap (answerOf n) (l .0 ∙ ap (λ (x : Request). placingOf (outcome x)) e ∙ ap placingOf good-outcome),
+      (
+        l .1 .0 ∙ ap (λ (x : Request). answersLeft x zs (outcome x)) e ∙ good-answers zs,
+        (
+          l .1 .1 .0 ∙ ap (λ (x : Request). rowsLeft x rs (outcome x)) e ∙ good-rows rs,
+          l .1 .1 .1 ∙ ap (λ (x : Request). columnsLeft x cs (outcome x)) e ∙ good-columns cs,
+        ),
+      ),
+    )
 
   -- ---- no file
   module _ (a c r n : ℕ) (is zs rs cs : List ℤ) where

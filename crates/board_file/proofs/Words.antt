@@ -39,3 +39,7 @@ numbers-behind x bs i (suc n) = ap (λ (t : List ℤ). signedOf (wordAt bs i) �
 pub numbers-none : (bs : List ℕ) (i : ℕ) (d : List ℤ) → d ≡ numbers bs i 0 ++ drop 0 d
 unfolding numbers
 numbers-none bs i d = refl
+
+-- the part of the buffer that holds n numbers is n long
+pub part-length : (bs : List ℕ) (is d : List ℤ) (i n : ℕ) → is ≡ numbers bs i n ++ d → n ≡ length (take n is)
+part-length bs is d i n e = sym (ap (λ (l : List ℤ). length (take n l)) e ∙ ap length (take-numbers bs d i n) ∙ length-numbers bs i n)

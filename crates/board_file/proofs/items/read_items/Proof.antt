@@ -50,13 +50,17 @@ loop-less c = search needs
 loop-again : tie.Need-loop-again Inv-loop μ-loop
 loop-again c =
     let l = c .before .before .before .loop in
-    let a = c .before .before .before .before .before .args in
-    (search needs, (simp length-set (l .inv .1 .0),
-    rw (toZ-ofZ w16 (c .signed .result) (record { sfits = c .signed .ok }))
-    (ap (λ (z : ℤ). set (l .items) (l .i) z) (c .signed .ensures ∙ ap signedOf (c .before .word .ensures))
-    ∙ ap (λ (t : List ℤ). set t (l .i) (signedOf (wordAt (a .bytes .now) (20 + 2 * l .i)))) (l .inv .1 .1)
-    ∙ store-next (a .bytes .now) (a .items .now) 20 (l .i) (omega arith)
-    ∙ ap (λ (k : ℕ). numbers (a .bytes .now) 20 k ++ drop k (a .items .now)) (sym (add-one (l .i))))))
+    let a = c .before .before .before .before .before .args in (
+      search needs,
+      (
+        simp length-set (l .inv .1 .0),
+        rw (toZ-ofZ w16 (c .signed .result) (record { sfits = c .signed .ok }))
+            (ap (λ (z : ℤ). set (l .items) (l .i) z) (c .signed .ensures ∙ ap signedOf (c .before .word .ensures))
+            ∙ ap (λ (t : List ℤ). set t (l .i) (signedOf (wordAt (a .bytes .now) (20 + 2 * l .i)))) (l .inv .1 .1)
+            ∙ store-next (a .bytes .now) (a .items .now) 20 (l .i) (omega arith)
+            ∙ ap (λ (k : ℕ). numbers (a .bytes .now) 20 k ++ drop k (a .items .now)) (sym (add-one (l .i)))),
+      ),
+    )
 
 same-length : tie.Need-same-length Inv-loop μ-loop
 same-length c = search needs
