@@ -30,5 +30,11 @@ fn main() {
     let mut answers = [0i16; 10000];
     let mut rows = [0i16; 32768];
     let mut columns = [0i16; 32768];
-    on_slices(&mut input, &mut items, &mut answers, &mut rows, &mut columns);
+    on_slices(
+        &mut input,
+        &mut items,
+        &mut answers,
+        &mut rows,
+        &mut columns,
+    );
 }
