@@ -1,0 +1,48 @@
+//! One placement on each side. The functions are not inlined, so that a profile can count one of them alone.
+use crate::boards::Board;
+use std::hint::black_box;
+
+/// What our side lends: answers, row list, column list.
+pub struct Lent {
+    answers: Vec<i16>,
+    rows: Vec<i16>,
+    columns: Vec<i16>,
+}
+
+impl Lent {
+    /// Lists of the smallest power of two of records that is enough.
+    pub fn new(board: &Board, flow: u8) -> Self {
+        let (rows, columns) = plain::walk(flow, board.counts[0], board.counts[1], &board.items).need();
+        let list = |need: usize| vec![0; (4 * need.next_power_of_two()).min(plain::LONGEST_LIST)];
+        Lent { answers: vec![0; board.items.len() / 6 * 5], rows: list(rows), columns: list(columns) }
+    }
+
+    pub fn records(&self) -> [usize; 2] {
+        [self.rows.len() / 4, self.columns.len() / 4]
+    }
+
+    pub fn bytes(&self) -> usize {
+        2 * (self.answers.len() + self.rows.len() + self.columns.len())
+    }
+
+    pub fn lines(&self) -> Vec<[i16; 4]> {
+        self.answers.chunks(5).map(|answer| [answer[0], answer[1], answer[2], answer[3]]).collect()
+    }
+}
+
+#[inline(never)]
+#[no_mangle]
+pub fn measured_ours(flow: u8, board: &Board, lent: &mut Lent) -> [[u16; 3]; 2] {
+    let [columns, rows] = board.counts;
+    let placed = ours::place(flow, columns, rows, &board.items, &mut lent.answers, &mut lent.rows, &mut lent.columns);
+    black_box(placed).expect("a request that fits")
+}
+
+/// The placements are made before; the matrix is made and freed in the measured time.
+#[inline(never)]
+#[no_mangle]
+pub fn measured_original(flow: u8, board: &Board, prepared: &mut original::Prepared) -> [[u16; 3]; 2] {
+    let [columns, rows] = board.counts;
+    let matrix = black_box(prepared.place(flow, columns, rows));
+    [matrix.counts(original::Axis::Horizontal), matrix.counts(original::Axis::Vertical)]
+}
