@@ -5,6 +5,8 @@ pub struct Board {
     pub name: String,
     pub counts: [[u16; 3]; 2],
     pub items: Vec<i16>,
+    /// The records of each lent list; none: the smallest power of two that is enough.
+    pub places: Option<usize>,
 }
 
 fn fixed(start: i32, length: i32) -> [i16; 3] {
@@ -16,7 +18,8 @@ fn spanned(length: i32) -> [i16; 3] {
 }
 
 fn board(name: &str, columns: u16, rows: u16, items: Vec<[[i16; 3]; 2]>) -> Board {
-    Board { name: name.to_string(), counts: [[0, columns, 0], [0, rows, 0]], items: items.concat().concat() }
+    let counts = [[0, columns, 0], [0, rows, 0]];
+    Board { name: name.to_string(), counts, items: items.concat().concat(), places: None }
 }
 
 fn empty() -> Board {
@@ -26,6 +29,11 @@ fn empty() -> Board {
 fn ward(random: &mut Random) -> Board {
     let tile = |_| [spanned(random.within(1, 3)), spanned(random.within(1, 2))];
     board("ward, 40 tiles", 12, 8, (0..40).map(tile).collect())
+}
+
+/// The same with lists as long as a program lends that does not know its boards: the clearing shows.
+fn ward_long(random: &mut Random) -> Board {
+    Board { name: "ward, lists of 8192 records".to_string(), places: Some(8192), ..ward(random) }
 }
 
 /// Spans up to 4 by 3; every 16th tile is fixed somewhere on the part of the board that the others fill.
@@ -65,7 +73,15 @@ pub const GROWTH: [i32; 6] = [50, 100, 200, 500, 1000, 2000];
 
 pub fn boards(seed: u64) -> Vec<Board> {
     let random = || Random::new(seed);
-    vec![empty(), ward(&mut random()), hall(&mut random(), 2000), rails(&mut random()), log(), past_edge()]
+    vec![
+        empty(),
+        ward(&mut random()),
+        ward_long(&mut random()),
+        hall(&mut random(), 2000),
+        rails(&mut random()),
+        log(),
+        past_edge(),
+    ]
 }
 
 pub fn growth(seed: u64) -> Vec<Board> {

@@ -1,7 +1,9 @@
 //! Measures our library beside the original: the same requests, both built as an ordinary release.
 //!
 //!     speed [--seed N] [--rounds N]     tables of times
-//!     speed --once SIDE BOARD FLOW      one placement of one side, for a profile: SIDE is ours or original
+//!     speed --sizes                     for each board and flow: board, flow, records of the row and the column list
+//!     speed --once SIDE BOARD FLOW ROWS COLUMNS
+//!                                       one placement, for a profile: SIDE is ours or original, the rest as --sizes says
 mod boards;
 mod operations;
 #[path = "../../compare/src/random.rs"]
@@ -22,17 +24,32 @@ const FLOWS: [&str; 4] = ["row", "column", "row dense", "column dense"];
 struct Wanted {
     seed: u64,
     rounds: usize,
-    once: Option<(String, usize, u8)>,
+    sizes: bool,
+    once: Option<Once>,
+}
+
+struct Once {
+    side: String,
+    board: usize,
+    flow: u8,
+    places: [usize; 2],
+}
+
+fn once_of(words: &mut dyn Iterator<Item = String>) -> Option<Once> {
+    let side = words.next()?;
+    let mut number = || words.next()?.parse::<usize>().ok();
+    Some(Once { side, board: number()?, flow: number()? as u8, places: [number()?, number()?] })
 }
 
 fn wanted() -> Option<Wanted> {
-    let mut wanted = Wanted { seed: SEED, rounds: 15, once: None };
+    let mut wanted = Wanted { seed: SEED, rounds: 15, sizes: false, once: None };
     let mut words = std::env::args().skip(1);
     while let Some(word) = words.next() {
         match word.as_str() {
             "--seed" => wanted.seed = words.next()?.parse().ok()?,
             "--rounds" => wanted.rounds = words.next()?.parse().ok().filter(|&rounds| rounds > 0)?,
-            "--once" => wanted.once = Some((words.next()?, words.next()?.parse().ok()?, words.next()?.parse().ok()?)),
+            "--sizes" => wanted.sizes = true,
+            "--once" => wanted.once = Some(once_of(&mut words)?),
             _ => return None,
         }
     }
@@ -45,62 +62,89 @@ fn prepared(board: &Board) -> Prepared {
 }
 
 /// Times of the original and of ours, once both have given the same.
-fn times(board: &Board, flow: u8, rounds: usize) -> ([f64; 2], Lent) {
+fn times(board: &Board, flow: u8, rounds: usize) -> [f64; 2] {
     let (mut lent, mut prepared) = (Lent::new(board, flow), prepared(board));
     let counts = measured_ours(flow, board, &mut lent);
     assert_eq!(counts, measured_original(flow, board, &mut prepared), "{}", board.name);
     assert_eq!(lent.lines(), prepared.lines(), "{}", board.name);
-    let mut original = || drop(measured_original(flow, board, &mut prepared));
-    let mut ours = || drop(measured_ours(flow, board, &mut lent));
-    (alternated(rounds, &mut original, &mut ours), lent)
+    let mut original = || {
+        measured_original(flow, board, &mut prepared);
+    };
+    let mut ours = || {
+        measured_ours(flow, board, &mut lent);
+    };
+    alternated(rounds, &mut original, &mut ours)
 }
 
 fn placements(boards: &[Board], rounds: usize) {
     println!("| board | {} |", FLOWS.join(" | "));
     println!("|---|---:|---:|---:|---:|");
-    let mut memory = Vec::new();
     for board in boards {
-        let mut cells = Vec::new();
-        for flow in 0..4 {
-            let (times, lent) = times(board, flow, rounds);
-            cells.push(format!("{} / {} = {}", shown(times[1]), shown(times[0]), ratio(times)));
-            let [rows, columns] = lent.records();
-            memory.push((board.name.clone(), flow, rows, columns, lent.bytes()));
-        }
+        let cell = |flow| {
+            let times = times(board, flow, rounds);
+            format!("{} / {} = {}", shown(times[1]), shown(times[0]), ratio(times))
+        };
+        let cells: Vec<String> = (0..4).map(cell).collect();
         println!("| {} | {} |", board.name, cells.join(" | "));
-    }
-    println!("\n| board | flow | records in the row list | in the column list | lent bytes |");
-    println!("|---|---|---:|---:|---:|");
-    for (name, flow, rows, columns, bytes) in memory {
-        println!("| {name} | {} | {rows} | {columns} | {bytes} |", FLOWS[flow as usize]);
     }
 }
 
-fn once(boards: &[Board], side: &str, board: usize, flow: u8) -> Option<()> {
-    let board = boards.get(board)?;
-    match side {
-        "ours" => drop(measured_ours(flow, board, &mut Lent::new(board, flow))),
-        "original" => drop(measured_original(flow, board, &mut prepared(board))),
-        _ => return None,
+/// What our side borrows: answers of ten bytes an item and records of eight.
+fn memory(boards: &[Board]) {
+    println!("| board | {} |", FLOWS.join(" | "));
+    println!("|---|---:|---:|---:|---:|");
+    for board in boards {
+        let cell = |flow| {
+            let lent = Lent::new(board, flow);
+            let [rows, columns] = lent.records();
+            format!("{rows} + {columns} records, {} bytes", lent.bytes())
+        };
+        let cells: Vec<String> = (0..4).map(cell).collect();
+        println!("| {} | {} |", board.name, cells.join(" | "));
     }
+}
+
+fn sizes(boards: &[Board]) {
+    for (at, board) in boards.iter().enumerate() {
+        for flow in 0..4 {
+            let [rows, columns] = Lent::new(board, flow).records();
+            println!("{at} {flow} {rows} {columns}");
+        }
+    }
+}
+
+fn once(boards: &[Board], once: &Once) -> Option<()> {
+    let board = boards.get(once.board)?;
+    match once.side.as_str() {
+        "ours" => measured_ours(once.flow, board, &mut Lent::with(board, once.places)),
+        "original" => measured_original(once.flow, board, &mut prepared(board)),
+        _ => return None,
+    };
     println!("{}", board.name);
     Some(())
 }
 
 fn main() -> ExitCode {
     let Some(wanted) = wanted() else {
-        eprintln!("usage: speed [--seed N] [--rounds N] [--once SIDE BOARD FLOW]");
+        eprintln!("usage: speed [--seed N] [--rounds N] [--sizes | --once SIDE BOARD FLOW ROWS COLUMNS]");
         return ExitCode::from(2);
     };
     let boards = boards::boards(wanted.seed);
-    if let Some((side, board, flow)) = wanted.once {
-        return once(&boards, &side, board, flow).map_or(ExitCode::from(2), |()| ExitCode::SUCCESS);
+    if wanted.sizes {
+        sizes(&boards);
+        return ExitCode::SUCCESS;
     }
-    println!("seed {}, {} rounds; a cell is ours / original = ratio\n", wanted.seed, wanted.rounds);
+    if let Some(wanted) = wanted.once {
+        return once(&boards, &wanted).map_or(ExitCode::from(2), |()| ExitCode::SUCCESS);
+    }
+    println!("seed {}, {} rounds; a cell is ours / original = ratio", wanted.seed, wanted.rounds);
+    println!("\nPlacement:\n");
     placements(&boards, wanted.rounds);
-    println!();
+    println!("\nGrowth:\n");
     placements(&boards::growth(wanted.seed), wanted.rounds);
-    println!();
+    println!("\nCalls on lists:\n");
     operations::print(wanted.seed, wanted.rounds);
+    println!("\nLent to ours (row list + column list):\n");
+    memory(&boards);
     ExitCode::SUCCESS
 }

@@ -10,11 +10,23 @@ pub struct Lent {
 }
 
 impl Lent {
-    /// Lists of the smallest power of two of records that is enough.
+    /// Lists of so many records.
+    pub fn with(board: &Board, [rows, columns]: [usize; 2]) -> Self {
+        Lent { answers: vec![0; board.items.len() / 6 * 5], rows: vec![0; 4 * rows], columns: vec![0; 4 * columns] }
+    }
+
+    /// Lists of the board's own length, or of the smallest power of two of records that is enough.
     pub fn new(board: &Board, flow: u8) -> Self {
-        let (rows, columns) = plain::walk(flow, board.counts[0], board.counts[1], &board.items).need();
-        let list = |need: usize| vec![0; (4 * need.next_power_of_two()).min(plain::LONGEST_LIST)];
-        Lent { answers: vec![0; board.items.len() / 6 * 5], rows: list(rows), columns: list(columns) }
+        let mut places = [board.places.unwrap_or(1); 2];
+        loop {
+            let mut lent = Self::with(board, places);
+            match placed(flow, board, &mut lent) {
+                Ok(_) => return lent,
+                Err((7, _)) => places[0] *= 2,
+                Err((8, _)) => places[1] *= 2,
+                Err((number, index)) => panic!("{}: refused {number} {index}", board.name),
+            }
+        }
     }
 
     pub fn records(&self) -> [usize; 2] {
@@ -30,12 +42,15 @@ impl Lent {
     }
 }
 
+fn placed(flow: u8, board: &Board, lent: &mut Lent) -> Result<[[u16; 3]; 2], (u8, u16)> {
+    let [columns, rows] = board.counts;
+    ours::place(flow, columns, rows, &board.items, &mut lent.answers, &mut lent.rows, &mut lent.columns)
+}
+
 #[inline(never)]
 #[no_mangle]
 pub fn measured_ours(flow: u8, board: &Board, lent: &mut Lent) -> [[u16; 3]; 2] {
-    let [columns, rows] = board.counts;
-    let placed = ours::place(flow, columns, rows, &board.items, &mut lent.answers, &mut lent.rows, &mut lent.columns);
-    black_box(placed).expect("a request that fits")
+    black_box(placed(flow, board, lent)).expect("a request that fits")
 }
 
 /// The placements are made before; the matrix is made and freed in the measured time.
