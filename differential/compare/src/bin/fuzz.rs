@@ -40,15 +40,25 @@ fn any(random: &mut Random) -> i16 {
 }
 
 fn any_count(random: &mut Random) -> u16 {
-    match random.below(8) {
+    match random.below(100) {
         0 => random.next() as u16,
-        1 => random.pick(&[9999, 10000, 10001, 32767, 32768, 65535]),
+        1..=2 => random.pick(&[9999, 10000, 10001, 32767, 32768, 65535]),
         _ => random.below(5) as u16,
     }
 }
 
 fn any_counts(random: &mut Random) -> [u16; 3] {
     [0; 3].map(|_| any_count(random))
+}
+
+/// In order most of the time.
+fn any_span(random: &mut Random) -> (i16, i16) {
+    let (one, other) = (any(random), any(random));
+    if random.one_in(8) {
+        (one, other)
+    } else {
+        (one.min(other), one.max(other))
+    }
 }
 
 /// A lent part with numbers before and behind it that no call may touch.
@@ -96,19 +106,20 @@ fn list(random: &mut Random) -> Vec<i16> {
     }
     let used = random.below(length as u64 / 4 + 1) as usize;
     let (mut track, mut line) = random.pick(&[(-10000i32, -10000i32), (-3, -5), (0, 0), (9990, 9900)]);
+    let mut state = 1;
     for record in list.chunks_exact_mut(4).take(used.min(100)) {
         if random.one_in(3) {
             track += random.within(1, 3);
             line = random.within(-9, 0);
         }
         let start = line + random.within(0, 2);
+        // Touching records have unlike states.
+        state = if start == line { 3 - state } else { random.within(1, 2) };
         line = start + random.within(1, 4);
-        record.copy_from_slice(&[track as i16, start as i16, line as i16, random.within(1, 2) as i16]);
+        record.copy_from_slice(&[track as i16, start as i16, line as i16, state as i16]);
     }
-    for _ in 0..random.below(3) {
-        if length > 0 && random.one_in(2) {
-            list[random.below(length as u64) as usize] = any(random);
-        }
+    while length > 0 && random.one_in(4) {
+        list[random.below(length as u64) as usize] = any(random);
     }
     list
 }
@@ -142,14 +153,13 @@ fn items(random: &mut Random) -> Vec<i16> {
 fn execute(random: &mut Random) -> (usize, u8) {
     let call = random.below(CALLS.len() as u64) as usize;
     let number = |refused: Option<u8>| refused.unwrap_or(0);
-    let spans = |random: &mut Random| ((any(random), any(random)), (any(random), any(random)));
     let given = match call {
         0 => number(ours::origin_zero_line(any(random), any_count(random)).err()),
         1 => number(ours::css_line(any(random), any_count(random)).err()),
         2 => number(ours::track_index(any_counts(random), any(random)).err()),
         3..=5 => {
             let mut lent = Lent::new(list(random));
-            let (tracks, lines) = spans(random);
+            let (tracks, lines) = (any_span(random), any_span(random));
             let given = match call {
                 3 => {
                     let state = if random.one_in(8) { any(random) } else { random.within(1, 2) as i16 };
