@@ -171,6 +171,7 @@ fn one_more(tally: Tally, n: usize, found: u64) -> Tally
     }
 }
 
+// A request that the data break off before, or that has too many items, agrees in nothing.
 fn next(
     data: &[u8],
     tally: Tally,
@@ -185,6 +186,9 @@ fn next(
     ensures { λ r. ⌜ (r .at ≤ tally .at + 20014) × ((r .agree ≤ tally .agree + 20014) × ((r .compared ≤ tally .compared + 20014) × (r .alike ≤ tally .alike + 20014))) ⌝ }
 {
     let at = tally.at;
+    if data.len() / 2 <= at + 7 {
+        return tally;
+    }
     let n = number(data, at + 7) as usize;
     if n > 2000 {
         return tally;
