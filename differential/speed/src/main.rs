@@ -9,12 +9,12 @@ mod operations;
 #[path = "../../compare/src/random.rs"]
 #[allow(dead_code)]
 mod random;
+#[allow(dead_code)]
 mod sides;
 mod timing;
 
 use boards::Board;
-use original::Prepared;
-use sides::{measured_original, measured_ours, Lent};
+use sides::{measured_original, measured_ours, prepared, Lent};
 use std::process::ExitCode;
 use timing::{alternated, ratio, shown};
 
@@ -56,11 +56,6 @@ fn wanted() -> Option<Wanted> {
     Some(wanted)
 }
 
-fn prepared(board: &Board) -> Prepared {
-    let items: Vec<[i16; 6]> = board.items.chunks(6).map(|item| item.try_into().expect("six numbers")).collect();
-    Prepared::new(&items)
-}
-
 /// Times of the original and of ours, once both have given the same.
 fn times(board: &Board, flow: u8, rounds: usize) -> [f64; 2] {
     let (mut lent, mut prepared) = (Lent::new(board, flow), prepared(board));
@@ -83,21 +78,6 @@ fn placements(boards: &[Board], rounds: usize) {
         let cell = |flow| {
             let times = times(board, flow, rounds);
             format!("{} / {} = {}", shown(times[1]), shown(times[0]), ratio(times))
-        };
-        let cells: Vec<String> = (0..4).map(cell).collect();
-        println!("| {} | {} |", board.name, cells.join(" | "));
-    }
-}
-
-/// What our side borrows: answers of ten bytes an item and records of eight.
-fn memory(boards: &[Board]) {
-    println!("| board | {} |", FLOWS.join(" | "));
-    println!("|---|---:|---:|---:|---:|");
-    for board in boards {
-        let cell = |flow| {
-            let lent = Lent::new(board, flow);
-            let [rows, columns] = lent.records();
-            format!("{rows} + {columns} records, {} bytes", lent.bytes())
         };
         let cells: Vec<String> = (0..4).map(cell).collect();
         println!("| {} | {} |", board.name, cells.join(" | "));
@@ -144,7 +124,5 @@ fn main() -> ExitCode {
     placements(&boards::growth(wanted.seed), wanted.rounds);
     println!("\nCalls on lists:\n");
     operations::print(wanted.seed, wanted.rounds);
-    println!("\nLent to ours (row list + column list):\n");
-    memory(&boards);
     ExitCode::SUCCESS
 }

@@ -42,6 +42,11 @@ impl Lent {
     }
 }
 
+pub fn prepared(board: &Board) -> original::Prepared {
+    let items: Vec<[i16; 6]> = board.items.chunks(6).map(|item| item.try_into().expect("six numbers")).collect();
+    original::Prepared::new(&items)
+}
+
 fn placed(flow: u8, board: &Board, lent: &mut Lent) -> Result<[[u16; 3]; 2], (u8, u16)> {
     let [columns, rows] = board.counts;
     ours::place(flow, columns, rows, &board.items, &mut lent.answers, &mut lent.rows, &mut lent.columns)
