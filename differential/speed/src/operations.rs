@@ -1,9 +1,8 @@
 //! The calls on lists that are filled with areas, beside the same calls on the original's matrix.
 use crate::random::Random;
-use crate::timing::{median, ratio, shown};
+use crate::timing::{median, ratio, shown, spent};
 use original::{Axis, Matrix};
 use std::hint::black_box;
-use std::time::Instant;
 
 type Span = (i16, i16);
 
@@ -65,11 +64,14 @@ impl Filled {
     }
 }
 
+/// Lists and matrices that are painted on in a round, so that one reading of the clock is little beside it.
+const COPIES: usize = 32;
+
 /// Nanoseconds a call.
 fn timed(calls: usize, run: impl FnOnce()) -> f64 {
-    let begun = Instant::now();
+    let begun = spent();
     run();
-    begun.elapsed().as_nanos() as f64 / calls as f64
+    (spent() - begun) as f64 / calls as f64
 }
 
 fn row(name: &str, used: usize, times: [Vec<f64>; 2]) {
@@ -87,17 +89,21 @@ fn of_size(random: &mut Random, places: usize, rounds: usize) {
 
     let mut times = [Vec::new(), Vec::new()];
     for _ in 0..rounds {
-        let mut matrix = filled.matrix_again(side);
-        times[0].push(timed(painted.len(), || {
-            for area in painted {
-                matrix.mark_area_as(Axis::Horizontal, area.columns, area.rows, area.state as u8);
+        let mut matrices: Vec<Matrix> = (0..COPIES).map(|_| filled.matrix_again(side)).collect();
+        times[0].push(timed(COPIES * painted.len(), || {
+            for matrix in &mut matrices {
+                for area in painted {
+                    matrix.mark_area_as(Axis::Horizontal, area.columns, area.rows, area.state as u8);
+                }
             }
         }));
-        let (mut rows, mut columns) = (filled.rows.clone(), filled.columns.clone());
-        times[1].push(timed(painted.len(), || {
-            for area in painted {
-                black_box(ours::paint(&mut rows, area.rows, area.columns, area.state));
-                black_box(ours::paint(&mut columns, area.columns, area.rows, area.state));
+        let mut lists: Vec<_> = (0..COPIES).map(|_| (filled.rows.clone(), filled.columns.clone())).collect();
+        times[1].push(timed(COPIES * painted.len(), || {
+            for (rows, columns) in &mut lists {
+                for area in painted {
+                    black_box(ours::paint(rows, area.rows, area.columns, area.state));
+                    black_box(ours::paint(columns, area.columns, area.rows, area.state));
+                }
             }
         }));
     }
@@ -105,13 +111,13 @@ fn of_size(random: &mut Random, places: usize, rounds: usize) {
 
     let mut times = [Vec::new(), Vec::new()];
     for _ in 0..rounds {
-        times[0].push(timed(asked.len(), || {
-            for area in &asked {
+        times[0].push(timed(COPIES * asked.len(), || {
+            for area in asked.iter().cycle().take(COPIES * asked.len()) {
                 black_box(filled.matrix.line_area_collision_jump(Axis::Horizontal, area.columns, area.rows));
             }
         }));
-        times[1].push(timed(asked.len(), || {
-            for area in &asked {
+        times[1].push(timed(COPIES * asked.len(), || {
+            for area in asked.iter().cycle().take(COPIES * asked.len()) {
                 black_box(ours::collision_jump(&filled.rows, area.rows, area.columns)).expect("a good list");
             }
         }));
@@ -120,13 +126,13 @@ fn of_size(random: &mut Random, places: usize, rounds: usize) {
 
     let mut times = [Vec::new(), Vec::new()];
     for _ in 0..rounds {
-        times[0].push(timed(asked.len(), || {
-            for area in &asked {
+        times[0].push(timed(COPIES * asked.len(), || {
+            for area in asked.iter().cycle().take(COPIES * asked.len()) {
                 black_box(filled.matrix.occupied_track_jump(Axis::Vertical, area.rows));
             }
         }));
-        times[1].push(timed(asked.len(), || {
-            for area in &asked {
+        times[1].push(timed(COPIES * asked.len(), || {
+            for area in asked.iter().cycle().take(COPIES * asked.len()) {
                 black_box(ours::occupied_track_jump(&filled.rows, area.rows)).expect("a good list");
             }
         }));

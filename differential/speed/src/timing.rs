@@ -1,15 +1,34 @@
-//! Times of two sides in alternated rounds, so that a load that comes and goes meets both.
-use std::time::Instant;
+//! Times of two sides in alternated rounds, so that a load that comes and goes meets both. It is the time that the
+//! processor spent on this thread: what other programs take of a shared machine is not in it.
 
-/// The shortest batch of calls that is timed as one.
-const BATCH: u128 = 2_000_000;
+/// The shortest batch of calls that is timed as one, in nanoseconds.
+const BATCH: u64 = 2_000_000;
 
-fn nanoseconds(times: u32, call: &mut dyn FnMut()) -> u128 {
-    let begun = Instant::now();
+#[repr(C)]
+struct Timespec {
+    seconds: i64,
+    nanoseconds: i64,
+}
+
+extern "C" {
+    fn clock_gettime(clock: i32, time: *mut Timespec) -> i32;
+}
+
+const CLOCK_THREAD_CPUTIME_ID: i32 = 3;
+
+/// Nanoseconds that the processor has spent on this thread.
+pub fn spent() -> u64 {
+    let mut time = Timespec { seconds: 0, nanoseconds: 0 };
+    assert_eq!(unsafe { clock_gettime(CLOCK_THREAD_CPUTIME_ID, &mut time) }, 0, "the thread's clock");
+    time.seconds as u64 * 1_000_000_000 + time.nanoseconds as u64
+}
+
+fn nanoseconds(times: u32, call: &mut dyn FnMut()) -> u64 {
+    let begun = spent();
     for _ in 0..times {
         call();
     }
-    begun.elapsed().as_nanos()
+    spent() - begun
 }
 
 fn calls_a_batch(call: &mut dyn FnMut()) -> u32 {
