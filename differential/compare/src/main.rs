@@ -1,12 +1,15 @@
 //! Runs our library, a plain reading of the rules and the published original side by side.
 //!
 //!     compare [--plain] [--seed N] [--count N]
+//!     compare --replay FOLDER
 //!
 //! --plain leaves our library out. --count is the number of placement requests; the list calls are in step with it.
+//! --replay writes requests with the original's answers for the program crates/replay.
 mod conversions;
 mod lists;
 mod placement;
 mod random;
+mod replay;
 mod sides;
 mod tally;
 
@@ -19,15 +22,18 @@ struct Wanted {
     plain: bool,
     seed: u64,
     count: u64,
+    replay: Option<String>,
 }
 
 fn wanted() -> Option<Wanted> {
     let clock = std::time::SystemTime::now().duration_since(std::time::UNIX_EPOCH);
-    let mut wanted = Wanted { plain: false, seed: clock.map_or(1, |time| time.as_nanos() as u64), count: 1_000_000 };
+    let seed = clock.map_or(1, |time| time.as_nanos() as u64);
+    let mut wanted = Wanted { plain: false, seed, count: 1_000_000, replay: None };
     let mut words = std::env::args().skip(1);
     while let Some(word) = words.next() {
         match word.as_str() {
             "--plain" => wanted.plain = true,
+            "--replay" => wanted.replay = Some(words.next()?),
             "--seed" => wanted.seed = words.next()?.parse().ok()?,
             "--count" => wanted.count = words.next()?.parse().ok()?,
             _ => return None,
@@ -38,9 +44,18 @@ fn wanted() -> Option<Wanted> {
 
 fn main() -> ExitCode {
     let Some(wanted) = wanted() else {
-        eprintln!("usage: compare [--plain] [--seed N] [--count N]");
+        eprintln!("usage: compare [--plain] [--seed N] [--count N] [--replay FOLDER]");
         return ExitCode::from(2);
     };
+    if let Some(folder) = wanted.replay {
+        return match replay::write(folder.as_ref()) {
+            Ok(()) => ExitCode::SUCCESS,
+            Err(error) => {
+                eprintln!("compare: {folder}: {error}");
+                ExitCode::FAILURE
+            }
+        };
+    }
     if !wanted.plain && !cfg!(feature = "library") {
         eprintln!("compare: built without our library, so only --plain can run");
         return ExitCode::from(2);

@@ -6,10 +6,10 @@ use crate::tally::{caught, shrink, Tally};
 use original::{Axis, Matrix};
 
 #[derive(Clone, Debug)]
-struct Request {
-    flow: u8,
-    counts: [[u16; 3]; 2],
-    items: Vec<i16>,
+pub struct Request {
+    pub flow: u8,
+    pub counts: [[u16; 3]; 2],
+    pub items: Vec<i16>,
     /// Lengths of the answer buffer, the row list and the column list.
     lengths: [usize; 3],
 }
@@ -171,14 +171,12 @@ fn good(random: &mut Random, shape: &Shape) -> Request {
     Request { flow, counts, items, lengths: [0; 3] }
 }
 
-/// Very many tiles that run past the end of the limited grid.
-fn many(random: &mut Random) -> Request {
+/// Many tiles that run past the end of the limited grid, if their spans are long enough.
+pub fn many(random: &mut Random, count: i32, longest: i32) -> Request {
     let flow = random.below(4) as u8;
     let row_flow = flow == 0 || flow == 2;
     let explicit = random.within(0, 4) as u16;
     let along = random.within(0, 2);
-    let longest = random.within(1, 12);
-    let count = random.pick(&[1000, 1999, 2000, 2000]);
     let mut items = Vec::new();
     for _ in 0..count {
         let primary = match random.below(12) {
@@ -247,23 +245,40 @@ fn spoil(random: &mut Random, request: &mut Request) {
     }
 }
 
+/// Each with its share of 10000 requests.
+const SHAPES: [(u64, Shape); 7] = [
+    (7000, Shape { items: (0, 8), lines: (-3, 6), longest: 3, edge: 0, counts: 3, large: 0 }),
+    (1800, Shape { items: (4, 14), lines: (-2, 4), longest: 2, edge: 0, counts: 2, large: 0 }),
+    (900, Shape { items: (1, 30), lines: (-12, 15), longest: 7, edge: 0, counts: 8, large: 0 }),
+    (100, Shape { items: (1, 6), lines: (-2, 3), longest: 3, edge: 30, counts: 3, large: 0 }),
+    (80, Shape { items: (1, 8), lines: (9994, 10004), longest: 4, edge: 3, counts: 2, large: 30 }),
+    (80, Shape { items: (1, 8), lines: (-10005, -9996), longest: 4, edge: 3, counts: 2, large: 20 }),
+    (39, Shape { items: (1, 6), lines: (-3, 3), longest: 4, edge: 40, counts: 3, large: 30 }),
+];
+
+/// One good request of each shape.
+pub fn of_each_shape(random: &mut Random) -> Vec<Request> {
+    SHAPES.iter().map(|(_, shape)| good(random, shape)).collect()
+}
+
 fn request(random: &mut Random) -> Request {
-    let small = Shape { items: (0, 8), lines: (-3, 6), longest: 3, edge: 0, counts: 3, large: 0 };
-    let shape = match random.below(10000) {
-        0..=6999 => small,
-        7000..=8799 => Shape { items: (4, 14), lines: (-2, 4), longest: 2, edge: 0, counts: 2, large: 0 },
-        8800..=9699 => Shape { items: (1, 30), lines: (-12, 15), longest: 7, edge: 0, counts: 8, large: 0 },
-        9700..=9799 => Shape { items: (1, 6), lines: (-2, 3), longest: 3, edge: 30, counts: 3, large: 0 },
-        9800..=9879 => Shape { items: (1, 8), lines: (9994, 10004), longest: 4, edge: 3, counts: 2, large: 30 },
-        9880..=9959 => Shape { items: (1, 8), lines: (-10005, -9996), longest: 4, edge: 3, counts: 2, large: 20 },
-        9960..=9998 => Shape { items: (1, 6), lines: (-3, 3), longest: 4, edge: 40, counts: 3, large: 30 },
-        _ => {
-            let mut request = many(random);
-            lend(random, &mut request);
-            return request;
+    let mut left = random.below(10000);
+    let mut shapes = SHAPES.iter();
+    let shape = loop {
+        match shapes.next() {
+            Some((share, shape)) if left < *share => break Some(shape),
+            Some((share, _)) => left -= share,
+            None => break None,
         }
     };
-    let mut request = good(random, &shape);
+    let Some(shape) = shape else {
+        let longest = random.within(1, 12);
+        let count = random.pick(&[1000, 1999, 2000, 2000]);
+        let mut request = many(random, count, longest);
+        lend(random, &mut request);
+        return request;
+    };
+    let mut request = good(random, shape);
     lend(random, &mut request);
     if random.one_in(12) {
         spoil(random, &mut request);

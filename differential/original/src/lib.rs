@@ -111,28 +111,48 @@ pub struct Placed {
     pub matrix: Matrix,
 }
 
-/// Places good items (kind 0: lines a..b; kind 1: span a). Flow: 0 row, 1 column, 2 row dense, 3 column dense.
-pub fn place(flow: u8, columns: Counts, rows: Counts, items: &[[i16; 6]]) -> Placed {
-    let flow = match flow {
-        0 => GridAutoFlow::Row,
-        1 => GridAutoFlow::Column,
-        2 => GridAutoFlow::RowDense,
-        _ => GridAutoFlow::ColumnDense,
-    };
-    let mut matrix = CellOccupancyMatrix::with_track_counts(track_counts(columns), track_counts(rows));
-    let placements: Vec<_> = items
-        .iter()
-        .map(|item| InBothAbsAxis {
+/// Items in the published types, so that a placement can be measured without the making of them.
+pub struct Prepared {
+    placements: Vec<InBothAbsAxis<Line<OriginZeroGridPlacement>>>,
+    items: Vec<GridItem>,
+}
+
+impl Prepared {
+    /// From good items (kind 0: lines a..b; kind 1: span a).
+    pub fn new(items: &[[i16; 6]]) -> Self {
+        let placement = |item: &[i16; 6]| InBothAbsAxis {
             horizontal: side(item[0], item[1], item[2]),
             vertical: side(item[3], item[4], item[5]),
-        })
-        .collect();
-    let mut placed: Vec<GridItem> =
-        items.iter().map(|_| GridItem { row: span((0, 0)), column: span((0, 0)) }).collect();
-    place_items(&mut matrix, &mut placed, &placements, flow);
-    let lines =
-        placed.iter().map(|item| [item.column.start.0, item.column.end.0, item.row.start.0, item.row.end.0]).collect();
-    Placed { lines, matrix: Matrix(matrix) }
+        };
+        let nowhere = |_: &[i16; 6]| GridItem { row: span((0, 0)), column: span((0, 0)) };
+        Prepared { placements: items.iter().map(placement).collect(), items: items.iter().map(nowhere).collect() }
+    }
+
+    /// Flow: 0 row, 1 column, 2 row dense, 3 column dense.
+    pub fn place(&mut self, flow: u8, columns: Counts, rows: Counts) -> Matrix {
+        let flow = match flow {
+            0 => GridAutoFlow::Row,
+            1 => GridAutoFlow::Column,
+            2 => GridAutoFlow::RowDense,
+            _ => GridAutoFlow::ColumnDense,
+        };
+        let mut matrix = CellOccupancyMatrix::with_track_counts(track_counts(columns), track_counts(rows));
+        place_items(&mut matrix, &mut self.items, &self.placements, flow);
+        Matrix(matrix)
+    }
+
+    /// Column start, column end, row start, row end of each item.
+    pub fn lines(&self) -> Vec<[i16; 4]> {
+        let lines = |item: &GridItem| [item.column.start.0, item.column.end.0, item.row.start.0, item.row.end.0];
+        self.items.iter().map(lines).collect()
+    }
+}
+
+/// Places good items.
+pub fn place(flow: u8, columns: Counts, rows: Counts, items: &[[i16; 6]]) -> Placed {
+    let mut prepared = Prepared::new(items);
+    let matrix = prepared.place(flow, columns, rows);
+    Placed { lines: prepared.lines(), matrix }
 }
 
 fn side(kind: i16, a: i16, b: i16) -> Line<OriginZeroGridPlacement> {
