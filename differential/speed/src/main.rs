@@ -1,6 +1,7 @@
 //! Measures our library beside the original: the same requests, both built as an ordinary release.
 //!
 //!     speed [--seed N] [--rounds N]     tables of times
+//!     speed --calls [..]                the table of the list calls alone
 //!     speed --sizes                     for each board and flow: board, flow, records of the row and the column list
 //!     speed --once SIDE BOARD FLOW ROWS COLUMNS
 //!                                       one placement, for a profile: SIDE is ours or original, the rest as --sizes says
@@ -24,6 +25,7 @@ const FLOWS: [&str; 4] = ["row", "column", "row dense", "column dense"];
 struct Wanted {
     seed: u64,
     rounds: usize,
+    calls: bool,
     sizes: bool,
     once: Option<Once>,
 }
@@ -42,12 +44,13 @@ fn once_of(words: &mut dyn Iterator<Item = String>) -> Option<Once> {
 }
 
 fn wanted() -> Option<Wanted> {
-    let mut wanted = Wanted { seed: SEED, rounds: 15, sizes: false, once: None };
+    let mut wanted = Wanted { seed: SEED, rounds: 15, calls: false, sizes: false, once: None };
     let mut words = std::env::args().skip(1);
     while let Some(word) = words.next() {
         match word.as_str() {
             "--seed" => wanted.seed = words.next()?.parse().ok()?,
             "--rounds" => wanted.rounds = words.next()?.parse().ok().filter(|&rounds| rounds > 0)?,
+            "--calls" => wanted.calls = true,
             "--sizes" => wanted.sizes = true,
             "--once" => wanted.once = Some(once_of(&mut words)?),
             _ => return None,
@@ -106,7 +109,7 @@ fn once(boards: &[Board], once: &Once) -> Option<()> {
 
 fn main() -> ExitCode {
     let Some(wanted) = wanted() else {
-        eprintln!("usage: speed [--seed N] [--rounds N] [--sizes | --once SIDE BOARD FLOW ROWS COLUMNS]");
+        eprintln!("usage: speed [--seed N] [--rounds N] [--calls | --sizes | --once SIDE BOARD FLOW ROWS COLUMNS]");
         return ExitCode::from(2);
     };
     let boards = boards::boards(wanted.seed);
@@ -118,10 +121,12 @@ fn main() -> ExitCode {
         return once(&boards, &wanted).map_or(ExitCode::from(2), |()| ExitCode::SUCCESS);
     }
     println!("seed {}, {} rounds; a cell is ours / original = ratio", wanted.seed, wanted.rounds);
-    println!("\nPlacement:\n");
-    placements(&boards, wanted.rounds);
-    println!("\nGrowth:\n");
-    placements(&boards::growth(wanted.seed), wanted.rounds);
+    if !wanted.calls {
+        println!("\nPlacement:\n");
+        placements(&boards, wanted.rounds);
+        println!("\nGrowth:\n");
+        placements(&boards::growth(wanted.seed), wanted.rounds);
+    }
     println!("\nCalls on lists:\n");
     operations::print(wanted.seed, wanted.rounds);
     ExitCode::SUCCESS

@@ -284,7 +284,7 @@ fn main() -> ExitCode {
             return;
         }
         for parting in &mut partings {
-            let smaller = parting.least.as_ref().map_or(true, |least| request.size() < least.size());
+            let smaller = parting.least.as_ref().is_none_or(|least| request.size() < least.size());
             if smaller && request.by_css(parting.before) == css && request.by_css(parting.after) == original {
                 parting.least = Some(request.clone());
             }
