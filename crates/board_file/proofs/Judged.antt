@@ -100,6 +100,18 @@ module _ (bs : List ℕ) where
       let b = eqb-true (lengthTold bs) (16 + 12 * wordAt bs 18) (and-l counted version (and-r whole (counted && version) r)) in
       omega arith
 
+  pub good-told : goodFile bs ≡ true → 65536 * wordAt bs 0 + wordAt bs 2 ≡ 16 + 12 * wordAt bs 18
+  unfolding goodFile lengthTold
+  good-told g =
+      let r = and-r long (whole && (counted && version)) g in
+      eqb-true (lengthTold bs) (16 + 12 * wordAt bs 18) (and-l counted version (and-r whole (counted && version) r))
+
+  pub good-version : goodFile bs ≡ true → getD bs 4 0 ≡ 1
+  unfolding goodFile
+  good-version g =
+      let r = and-r whole (counted && version) (and-r long (whole && (counted && version)) g) in
+      eqb-true (getD bs 4 0) 1 (and-r counted version r)
+
   pub head-count : (h : Head) → h ≡ headOf bs → h .count ≡ wordAt bs 18
   unfolding headOf
   head-count h e = ap (λ (x : Head). x .count) e
