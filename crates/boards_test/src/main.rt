@@ -57,8 +57,24 @@ fn boards() {
     );
 }
 
+// A file that agrees with itself and has 2001 items, all of zeros: refused by their count, but after the flow.
+fn many(file: &mut [u8; 24032]) {
+    file[2] = 93;
+    file[3] = 220;
+    file[4] = 1;
+    file[18] = 7;
+    file[19] = 209;
+    board(b"2001 items", file);
+    file[5] = 9;
+    board(b"2001 items, flow 9", file);
+    file[4] = 2;
+    board(b"2001 items, flow 9, version 2", file);
+}
+
 fn main() {
     boards();
+    let mut file = [0u8; 24032];
+    many(&mut file);
     door::case_6();
     damaged::all();
 }
