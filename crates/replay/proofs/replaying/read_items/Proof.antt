@@ -9,7 +9,6 @@ use Rattle.replay.proofs.replaying.read_items.Tie as tie
 use Rattle.replay.proofs.replaying.read_items.Reads as reads
 use Rattle.replay.proofs.replaying.read_items.Lts as lts
 use Rattle.replay.proofs.data.number.Reads as number-reads
-use Rattle.replay.proofs.data.signed.Reads as signed-reads
 
 abbrev Inv-loop : tie.InvT-loop
 Inv-loop «data» k items₀ n i₀ items i = (length items ≡ length items₀) × (i ≤ n)
