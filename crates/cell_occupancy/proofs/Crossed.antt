@@ -19,7 +19,7 @@ use Rattle.intervals.proofs.Flat.{length-encode}
 use Rattle.intervals.proofs.OverInt.{digit-laws}
 use Rattle.intervals.specs.Lists.{recs, onTrack, Holds}
 use Rattle.cell_occupancy.specs.Calls.{extentOf, larger, over, collisionJump, pastTrack, orNext, occupiedJump}
-use Rattle.cell_occupancy.specs.Inner.{trackNo, startNo, endNo, stateNo, Front, Split, Part, Tail}
+use Rattle.cell_occupancy.specs.Inner.{trackNo, startNo, endNo, stateNo, Front, Split, Crosses, Part, Tail}
 use Rattle.cell_occupancy.specs.declared.jumps.Extent.{Extent}
 use Rattle.cell_occupancy.specs.declared.jumps.Extent.the-variants as X
 use Rattle.cell_occupancy.specs.declared.jumps.Jump.{Jump}
@@ -60,6 +60,13 @@ jump-skip {l} {n} u v t₂ a b k h s f =
     skip-front (λ t j. larger (extentOf (onTrack t (recs n l)) a b) j) u v t₂ h (λ t p q j. ap (λ (r : List (Rec ℤ)). larger (extentOf r a b) j) (no-record u v k s f t p q))
 
 -- ---- the crossed tracks from behind
+
+pub in-order : {l : List ℤ} {first past : ℕ} → Crosses l first past → first ≤ past
+in-order {l} {first} {past} x = go (decLt past first)
+  where
+    go : Dec (past < first) → first ≤ past
+    go (no h) = omega arith
+    go (yes h) = let a = x .begins .below past h in let b = x .ends .above past (omega arith) (omega (arith, x .begins .within)) in let o = x .order in absurd (omega signed)
 
 -- the jump over the tracks from `line` on, before which the first k records stand
 pub record SoFar (l : List ℤ) (n : ℕ) (t₁ t₂ a b : ℤ) (k : ℕ) (best : Jump) : Type 0 where

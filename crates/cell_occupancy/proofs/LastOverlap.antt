@@ -55,6 +55,25 @@ ends-before {l} v i (suc j) h k = go (ℕ-discrete i j) (λ m. ends-before v i j
     go (yes e) r = rw e (v .next j k)
     go (no d) r = let x = r (omega arith) in let y = v .order j (omega arith) in let z = v .next j k in omega signed
 
+-- starts rise
+pub starts-rise : {l : List ℤ} {n : ℕ} → Ascends l n → (i j : ℕ) → i ≤ j → j < n → startNo l i ≤ℤ startNo l j
+starts-rise {l} v i j h k = go (ℕ-discrete i j)
+  where
+    go : Dec (i ≡ j) → startNo l i ≤ℤ startNo l j
+    go (yes e) = rw e (omega signed)
+    go (no d) = let x = ends-before v i j (omega arith) k in let y = v .order i (omega arith) in omega signed
+
+-- records that start at the end or behind it don't overlap
+pub late-off : (l : List ℤ) (a b : ℤ) (k m : ℕ) → k ≤ m → ((i : ℕ) → k ≤ i → i < m → b ≤ℤ startNo l i) → extentOf (recs m l) a b ≡ extentOf (recs k l) a b
+late-off l a b k zero h f = let e : 0 ≡ k = omega arith in ap (λ (n : ℕ). extentOf (recs n l) a b) e
+late-off l a b k (suc m) h f = go (ℕ-discrete k (suc m)) (λ q. late-off l a b k m q (λ i x y. f i x (omega arith)))
+  where
+    go : Dec (k ≡ suc m) → (k ≤ m → extentOf (recs m l) a b ≡ extentOf (recs k l) a b) → extentOf (recs (suc m) l) a b ≡ extentOf (recs k l) a b
+    go (yes e) r = rw e
+    go (no d) r =
+        let q = f m (omega arith) (omega arith) in
+        extent-step l a b (suc m) m refl ∙ rw (g-lt-false (startNo l m) b (omega signed)) (r (omega arith))
+
 pub settled : {l : List ℤ} {n : ℕ} → Ascends l n → (a b : ℤ) (k j : ℕ) → k ≡ suc j → j < n → endNo l j ≤ℤ a → extentOf (recs k l) a b ≡ Free
 settled {l} {n} v a b k j e h t =
     none-overlap l a b k (λ i q. go i q (ℕ-discrete i j))

@@ -1,5 +1,5 @@
 -- A list that keeps the rules is sorted by track, so the records of one track are a part of it.
-use mathlib.Core.Path.{_≡_, refl, sym, ap, _∙_}
+use mathlib.Core.Path.{_≡_, refl, sym, ap, _∙_, subst}
 use mathlib.Core.Bool.{true, false}
 use mathlib.Core.List.{List, [], _∷_, _++_, append-nil}
 use Prim.Native.Nat.{ℕ, zero, suc, _+_, _-_, _*_, _<_, _≤_}
@@ -16,7 +16,7 @@ use Rattle.intervals.specs.OverInt.{encode}
 use Rattle.intervals.specs.Flat.{rows}
 use Rattle.intervals.proofs.Index.{rows-ext}
 use Rattle.intervals.specs.Lists.{recs, onTrack, Holds}
-use Rattle.cell_occupancy.specs.Inner.{trackNo, startNo, endNo, stateNo, mayFollow, Front, Split}
+use Rattle.cell_occupancy.specs.Inner.{trackNo, startNo, endNo, stateNo, mayFollow, Front, Split, Bounded}
 use Rattle.cell_occupancy.proofs.ByIndex.{holds-both, nn-good}
 
 -- ---- sorted
@@ -42,31 +42,55 @@ sorted {l} f i (suc j) h k = go (ℕ-discrete i (suc j)) (λ m. sorted f i j m (
 
 -- ---- a halving search
 
-pub record Halving (l : List ℤ) (n : ℕ) (x : ℤ) (lo hi : ℕ) : Type 0 where
+pub record Halving (key : ℕ → ℤ) (n : ℕ) (x : ℤ) (lo hi : ℕ) : Type 0 where
   pub order : lo ≤ hi
   pub left : hi ≤ n
-  pub below : (k : ℕ) → k < lo → trackNo l k <ℤ x
-  pub above : (k : ℕ) → hi ≤ k → k < n → x ≤ℤ trackNo l k
+  pub below : (k : ℕ) → k < lo → key k <ℤ x
+  pub above : (k : ℕ) → hi ≤ k → k < n → x ≤ℤ key k
 
-module _ {l : List ℤ} {n : ℕ} {x : ℤ} {lo hi : ℕ} (f : Front l n) (v : Halving l n x lo hi) where
-  pub go-up : (m : ℕ) → m < hi → trackNo l m <ℤ x → Halving l n x (m + 1) hi
+module _ {key : ℕ → ℤ} {n : ℕ} {x : ℤ} {lo hi : ℕ} (rise : (i j : ℕ) → i ≤ j → j < n → key i ≤ℤ key j) (v : Halving key n x lo hi) where
+  pub go-up : (m : ℕ) → m < hi → key m <ℤ x → Halving key n x (m + 1) hi
   go-up m h t = record {
     order = omega arith;
     left = v .left;
-    below = λ k b. let s = sorted f k m (omega arith) (omega (arith, v .left)) in omega signed;
+    below = λ k b. let s = rise k m (omega arith) (omega (arith, v .left)) in omega signed;
     above = v .above;
   }
 
-  pub go-down : (m : ℕ) → lo ≤ m → m < hi → x ≤ℤ trackNo l m → Halving l n x lo m
+  pub go-down : (m : ℕ) → lo ≤ m → m < hi → x ≤ℤ key m → Halving key n x lo m
   go-down m h h₂ t = record {
     order = omega arith;
     left = omega (arith, v .left);
     below = v .below;
-    above = λ k a b. let s = sorted f m k a b in omega signed;
+    above = λ k a b. let s = rise m k a b in omega signed;
   }
 
-pub found : {l : List ℤ} {n : ℕ} {x : ℤ} {lo hi : ℕ} → Halving l n x lo hi → hi ≤ lo → Split l n x lo
-found v h = record { within = omega (arith, v .order, v .left); below = v .below; above = λ k a b. v .above k (omega arith) b }
+pub found : (l : List ℤ) {n : ℕ} {x : ℤ} {lo hi : ℕ} → Halving (trackNo l) n x lo hi → hi ≤ lo → Split l n x lo
+found l v h = record { within = omega (arith, v .order, v .left); below = v .below; above = λ k a b. v .above k (omega arith) b }
+
+pub bounded : (l : List ℤ) {n : ℕ} {x : ℤ} {lo hi : ℕ} → Halving (startNo l) n x lo hi → Bounded l n x lo hi
+bounded l v = record { order = v .order; within = v .left; below = v .below; above = v .above }
+
+pub halving : (l : List ℤ) {n : ℕ} {x : ℤ} {lo hi : ℕ} → Bounded l n x lo hi → Halving (startNo l) n x lo hi
+halving l v = record { order = v .order; left = v .within; below = v .below; above = v .above }
+
+-- ---- a place between two records
+
+-- it is not before the first record, where that is below x
+pub not-first : (l : List ℤ) (x : ℤ) → trackNo l 0 <ℤ x → (k : ℕ) → x ≤ℤ trackNo l k → 0 < k
+not-first l x h zero q = absurd (omega signed)
+not-first l x h (suc k) q = omega arith
+
+pub split-between : {l : List ℤ} {n : ℕ} {x : ℤ} → Front l n → (k : ℕ) → k < n → trackNo l (k - 1) <ℤ x → x ≤ℤ trackNo l k → Split l n x k
+split-between f k h p q = record {
+  within = omega arith;
+  below = λ i b. let s = sorted f i (k - 1) (omega arith) (omega arith) in omega signed;
+  above = λ i a b. let s = sorted f k i a b in omega signed;
+}
+
+-- the same place for the same track
+pub split-as : {l : List ℤ} {n k : ℕ} {x y : ℤ} → x ≡ y → Split l n x k → Split l n y k
+split-as {l} {n} {k} e s = subst (λ (x : ℤ). Split l n x k) e s
 
 -- ---- rows
 

@@ -7,6 +7,7 @@ use lib.ListN.{length, getD, take, drop}
 use lib.IntN.{ℤ, pos, negsuc, _+ℤ_}
 use lib.Signed.{ltZ, _≤ℤ_, _<ℤ_}
 use Rattle.intervals.specs.Records.{same}
+use Rattle.intervals.specs.Lists.{Holds}
 
 -- the numbers of record i
 abbrev pub trackNo : List ℤ → ℕ → ℤ
@@ -65,6 +66,27 @@ pub record Split (l : List ℤ) (n : ℕ) (x : ℤ) (r : ℕ) : Type 0 where
   pub within : r ≤ n
   pub below : (k : ℕ) → k < r → trackNo l k <ℤ x
   pub above : (k : ℕ) → r ≤ k → k < n → x ≤ℤ trackNo l k
+
+-- of n records on one track, those before lo start before x, and those from hi on don't
+pub record Bounded (l : List ℤ) (n : ℕ) (x : ℤ) (lo hi : ℕ) : Type 0 where
+  pub order : lo ≤ hi
+  pub within : hi ≤ n
+  pub below : (k : ℕ) → k < lo → startNo l k <ℤ x
+  pub above : (k : ℕ) → hi ≤ k → k < n → x ≤ℤ startNo l k
+
+-- r is how many of n records on one track start before x
+abbrev pub Starting : List ℤ → ℕ → ℤ → ℕ → Type 0
+Starting l n x r = Bounded l n x r r
+
+-- the records from `first` up to `past` are those of the tracks low..high
+pub record Crosses (l : List ℤ) (first past : ℕ) : Type 0 where
+  pub used : ℕ
+  pub low : ℤ
+  pub high : ℤ
+  pub holds : Holds l used
+  pub order : low ≤ℤ high
+  pub begins : Split l used low first
+  pub ends : Split l used high past
 
 -- r is the part of l that holds the records of track t among the first n, as a part of the list
 pub record Part (l : List ℤ) (n : ℕ) (t : ℤ) (r : List ℤ) : Type 0 where

@@ -6,7 +6,7 @@ ghost use lib.IntN.{ℤ};
 ghost use lib.Signed.{_<ℤ_};
 ghost use Rattle.intervals.specs.Lists.{Holds, recs};
 ghost use Rattle.cell_occupancy.specs.Calls.{extentOf, larger, collisionJump, occupiedJump};
-ghost use Rattle.cell_occupancy.specs.Inner.{Ascends};
+ghost use Rattle.cell_occupancy.specs.Inner.{Ascends, Crosses, Starting, Bounded};
 use crate::rules::number;
 use crate::tracks::last_track;
 use crate::tracks::lower;
@@ -23,23 +23,62 @@ pub enum Jump {
     Free,
 }
 
+// The records before lo start before a line, and those from hi on don't.
+struct Bounds {
+    pub lo: usize,
+    pub hi: usize,
+}
+
+// Bounds at most 8 records apart for the line `end`, by halving: the records are in order.
+fn narrowed(part: &[i16], end: i16) -> Bounds
+    requires { ⌜ Ascends (now part) (length (now part) / 4) ⌝ }
+    ensures { λ r. ⌜ Bounded (now (part .entry)) (length (now (part .entry)) / 4) end (r .lo) (r .hi) ⌝ }
+{
+    let mut lo: usize = 0;
+    let mut hi = part.len() / 4;
+    while 8 < hi - lo {
+        let mid = lo + (hi - lo) / 2;
+        let begins = number(part, 4 * mid + 1);
+        if begins < end {
+            lo = mid + 1;
+        } else {
+            hi = mid;
+        }
+    }
+    Bounds { lo, hi }
+}
+
+// How many records of the part start before `end`. The last few steps go record by record, which is cheaper there than halving.
+fn starting_before(part: &[i16], end: i16) -> usize
+    requires { ⌜ Ascends (now part) (length (now part) / 4) ⌝ }
+    ensures { λ r. ⌜ Starting (now (part .entry)) (length (now (part .entry)) / 4) end r ⌝ }
+{
+    let found = narrowed(part, end);
+    let lo = found.lo;
+    let mut k = found.hi;
+    while lo < k {
+        let begins = number(part, 4 * (k - 1) + 1);
+        if begins < end {
+            return k;
+        }
+        k -= 1;
+    }
+    lo
+}
+
 // The end of the last record of the part that overlaps start..end. The records are in order, so the last one that starts before
 // `end` decides.
 pub fn collision_extent(part: &[i16], start: i16, end: i16) -> Extent
     requires { ⌜ Ascends (now part) (length (now part) / 4) ⌝ }
     ensures { λ r. ⌜ r ≡ extentOf (recs (length (now (part .entry)) / 4) (now (part .entry))) start end ⌝ }
 {
-    let mut k = part.len() / 4;
-    while 0 < k {
-        k -= 1;
-        let begins = number(part, 4 * k + 1);
-        if begins < end {
-            let ends = number(part, 4 * k + 2);
-            if start < ends {
-                return Extent::Ends(ends);
-            }
-            return Extent::Free;
-        }
+    let k = starting_before(part, end);
+    if k == 0 {
+        return Extent::Free;
+    }
+    let ends = number(part, 4 * (k - 1) + 2);
+    if start < ends {
+        return Extent::Ends(ends);
     }
     Extent::Free
 }
@@ -62,8 +101,24 @@ fn larger(extent: Extent, jump: Jump) -> Jump
     }
 }
 
-// The largest, over the crossed tracks, of the end of the last overlapping record. The records of the crossed tracks stand
-// together in the list; they are taken track by track from behind, so that a track with no record costs nothing.
+// The largest, over the crossed tracks, of the end of the last overlapping record. The records of the crossed tracks are those from
+// `first` up to `past`; they are taken track by track from behind, so that a track with no record costs nothing.
+pub fn collision_between(list: &[i16], first: usize, past: usize, start: i16, end: i16) -> Jump
+    requires { ⌜ Crosses (now list) first past ⌝ }
+    ensures { λ r. ⌜ ((c : Crosses (now (list .entry)) first past) → r ≡ collisionJump (recs (c .used) (now (list .entry))) (c .low) (c .high) start end) ⌝ }
+{
+    let mut k = past;
+    let mut best = Jump::Free;
+    while first < k {
+        let part = last_track(list, first, k);
+        let extent = collision_extent(part, start, end);
+        best = larger(extent, best);
+        k -= part.len() / 4;
+    }
+    best
+}
+
+// The same of the tracks track_start..track_end, whose records are found by halving.
 pub fn collision_jump(
     list: &[i16],
     used: usize,
@@ -77,15 +132,8 @@ pub fn collision_jump(
     ensures { λ r. ⌜ r ≡ collisionJump (recs used (now (list .entry))) «track_start» «track_end» start end ⌝ }
 {
     let first = lower(list, 0, used, track_start as i32);
-    let mut k = lower(list, first, used, track_end as i32);
-    let mut best = Jump::Free;
-    while first < k {
-        let part = last_track(list, first, k);
-        let extent = collision_extent(part, start, end);
-        best = larger(extent, best);
-        k -= part.len() / 4;
-    }
-    best
+    let past = lower(list, first, used, track_end as i32);
+    collision_between(list, first, past, start, end)
 }
 
 // One past the last non-empty track of the span.

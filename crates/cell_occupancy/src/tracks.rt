@@ -25,7 +25,7 @@ impl Place {
 }
 
 // The first record from `from` on whose track is not below x, by halving. x is wide enough for the track behind any track.
-pub fn lower(list: &[i16], from: usize, used: usize, x: i32) -> usize
+fn halved(list: &[i16], from: usize, used: usize, x: i32) -> usize
     requires { ⌜ Front (now list) used ⌝ }
     requires { ⌜ from ≤ used ⌝ }
     requires { ⌜ ((k : ℕ) → k < from → trackNo (now list) k <ℤ x) ⌝ }
@@ -45,6 +45,74 @@ pub fn lower(list: &[i16], from: usize, used: usize, x: i32) -> usize
     lo
 }
 
+// The same. Often it is behind all records, which the last record tells.
+pub fn lower(list: &[i16], from: usize, used: usize, x: i32) -> usize
+    requires { ⌜ Front (now list) used ⌝ }
+    requires { ⌜ from ≤ used ⌝ }
+    requires { ⌜ ((k : ℕ) → k < from → trackNo (now list) k <ℤ x) ⌝ }
+    ensures { λ r. ⌜ (from ≤ r) × Split (now (list .entry)) used x r ⌝ }
+{
+    if from < used {
+        let last = number(list, 4 * (used - 1)) as i32;
+        if last < x {
+            return used;
+        }
+    }
+    halved(list, from, used, x)
+}
+
+// The same place by going forward from `from`, record by record: for a place that is near, where halving the list is dearer.
+pub fn lower_ahead(list: &[i16], from: usize, used: usize, x: i32) -> usize
+    requires { ⌜ Front (now list) used ⌝ }
+    requires { ⌜ from ≤ used ⌝ }
+    requires { ⌜ ((k : ℕ) → k < from → trackNo (now list) k <ℤ x) ⌝ }
+    ensures { λ r. ⌜ (from ≤ r) × Split (now (list .entry)) used x r ⌝ }
+{
+    let mut k = from;
+    while k < used {
+        let track = number(list, 4 * k) as i32;
+        if x <= track {
+            return k;
+        }
+        k += 1;
+    }
+    k
+}
+
+// Where the track of the last record before `to` begins, by going back from there. The list begins on a lower track, so some record
+// stops it.
+fn track_back(list: &[i16], to: usize) -> usize
+    requires { ⌜ Front (now list) to ⌝ }
+    requires { ⌜ 0 < to ⌝ }
+    requires { ⌜ trackNo (now list) 0 <ℤ trackNo (now list) (to - 1) ⌝ }
+    ensures { λ r. ⌜ Split (now (list .entry)) to (trackNo (now (list .entry)) (to - 1)) r ⌝ }
+{
+    let track = number(list, 4 * (to - 1));
+    let mut k = to - 1;
+    loop {
+        let before = number(list, 4 * (k - 1));
+        if before < track {
+            return k;
+        }
+        k -= 1;
+    }
+}
+
+// Where the last track among the records from `from` up to `to` begins. Often they are all on one track, and then its two ends tell.
+fn last_begin(list: &[i16], from: usize, to: usize) -> usize
+    requires { ⌜ Front (now list) to ⌝ }
+    requires { ⌜ from < to ⌝ }
+    requires { ⌜ ((k : ℕ) → k < from → trackNo (now list) k <ℤ trackNo (now list) (to - 1)) ⌝ }
+    ensures { λ r. ⌜ (from ≤ r) × Split (now (list .entry)) to (trackNo (now (list .entry)) (to - 1)) r ⌝ }
+{
+    let track = number(list, 4 * (to - 1));
+    let begins = number(list, 4 * from);
+    if track <= begins {
+        return from;
+    }
+    track_back(list, to)
+}
+
 // The records of the last track among those from `from` up to `to`.
 pub fn last_track<'a>(list: &'a [i16], from: usize, to: usize) -> &'a [i16]
     requires { ⌜ Front (now list) to ⌝ }
@@ -52,8 +120,7 @@ pub fn last_track<'a>(list: &'a [i16], from: usize, to: usize) -> &'a [i16]
     requires { ⌜ ((k : ℕ) → k < from → trackNo (now list) k <ℤ trackNo (now list) (to - 1)) ⌝ }
     ensures { λ r. ⌜ Tail (now (list .entry)) from to (now r) ⌝ }
 {
-    let track = number(list, 4 * (to - 1));
-    let a = lower(list, from, to, track as i32);
+    let a = last_begin(list, from, to);
     &list[4 * a..4 * to]
 }
 

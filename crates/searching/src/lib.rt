@@ -9,11 +9,14 @@ ghost use Rattle.walk.specs.Axis as Axis;
 ghost use Rattle.walk.specs.Search.{firstLine, firstPair, placesTo, at};
 ghost use Rattle.searching.specs.Clear.{clear, wholeGrid, Inside};
 use cell_occupancy::jumps::Jump;
-use cell_occupancy::jumps::collision_jump;
+use cell_occupancy::jumps::collision_between;
 use cell_occupancy::jumps::occupied_track_jump;
+use cell_occupancy::tracks::lower;
+use cell_occupancy::tracks::lower_ahead;
 use coordinates::Lines;
 
-// The first line from `start` on at which a span lies clear of the records over the tracks.
+// The first line from `start` on at which a span lies clear of the records over the tracks. Each line is tried against the same
+// records, so where they stand is found once.
 pub fn first_free_line(list: &[i16], used: usize, tracks: Lines, start: i16, span: u16) -> i16
     requires { ⌜ Holds (now list) used ⌝ }
     requires { ⌜ tracks .start <ℤ tracks .end ⌝ }
@@ -23,9 +26,11 @@ pub fn first_free_line(list: &[i16], used: usize, tracks: Lines, start: i16, spa
     let track_start = tracks.start;
     let track_end = tracks.end;
     let n = span as i16;
+    let first = lower(list, 0, used, track_start as i32);
+    let past = lower(list, first, used, track_end as i32);
     let mut line = start;
     loop {
-        let jump = collision_jump(list, used, track_start, track_end, line, line + n);
+        let jump = collision_between(list, first, past, line, line + n);
         let Jump::Next(e) = jump else {
             return line;
         };
@@ -59,7 +64,8 @@ pub struct Pair {
 
 // The first pair of lines at which a tile lies clear: on the secondary line of `from` those from its primary line on, then on each
 // next secondary line those from the grid's start on, as long as the tile ends at or before the grid's end. The list's tracks are
-// those of the secondary axis. A tile as wide as the grid has one place on a line, so its search goes by whole tracks.
+// those of the secondary axis. A tile as wide as the grid has one place on a line, so its search goes by whole tracks. The records
+// that a tile can meet on a secondary line are those from `first` up to `past`; those of the next line are right behind.
 pub fn first_free_pair(
     list: &[i16],
     used: usize,
@@ -83,13 +89,15 @@ pub fn first_free_pair(
     let last = grid_end - n;
     let mut primary = from.primary;
     let mut secondary = from.secondary;
+    let mut first = lower(list, 0, used, secondary as i32);
+    let mut past = lower(list, first, used, (secondary + m) as i32);
     let line = 'search: loop {
         if primary == grid_start && last == grid_start {
             secondary = first_free_stripe(list, used, secondary, secondary_span);
             break 'search grid_start;
         }
         while primary + n <= grid_end {
-            let jump = collision_jump(list, used, secondary, secondary + m, primary, primary + n);
+            let jump = collision_between(list, first, past, primary, primary + n);
             let Jump::Next(e) = jump else {
                 break 'search primary;
             };
@@ -97,6 +105,8 @@ pub fn first_free_pair(
         }
         secondary += 1;
         primary = grid_start;
+        first = lower_ahead(list, first, used, secondary as i32);
+        past = lower_ahead(list, past, used, (secondary + m) as i32);
     };
     Pair {
         primary: line,

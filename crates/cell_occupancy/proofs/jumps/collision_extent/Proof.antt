@@ -1,112 +1,82 @@
--- `jumps::collision_extent`: what is left to scan gives the answer. Assumes nothing.
-use mathlib.Core.Path.{_≡_, refl, sym, ap, _∙_}
-use mathlib.Core.Bool.{cond, _&&_}
-use mathlib.Core.List.{List}
-use Prim.Native.Nat.{ℕ, _-_, _/_, _≤_}
+-- `jumps::collision_extent`: records that start at the end or behind it don't count, and the last of the others decides. Assumes nothing.
+use borrow.Author.Needs.{needs}
+use mathlib.Core.Path.{_≡_, sym, ap, _∙_}
+use Prim.Native.Nat.{ℕ, suc, _-_, _/_}
 use native.Mathlib.Omega.{arith}
 use lib.ListN.{length}
-use lib.IntN.{ℤ}
-use lib.Signed.{ltZ}
 use mir.Syntax.{w16}
 use mir.Val.{toZ, ofZ}
 use mir.Facts.{toZ-ofZ}
-use Rattle.signed.proofs.Laws.{signed, g-lt-true, g-lt-false}
+use Rattle.signed.proofs.Laws.{signed, g-lt-true}
 use Rattle.intervals.specs.Lists.{recs}
 use Rattle.cell_occupancy.specs.Calls.{extentOf}
-use Rattle.cell_occupancy.specs.Inner.{startNo, endNo}
-use Rattle.cell_occupancy.specs.declared.jumps.Extent.the-variants.{Ends}
-use Rattle.cell_occupancy.proofs.LastOverlap.{extent-step, settled}
+use Rattle.cell_occupancy.specs.Inner.{startNo, endNo, Starting}
+use Rattle.cell_occupancy.proofs.LastOverlap.{extent-step, late-off, settled}
 use Rattle.cell_occupancy.proofs.jumps.collision_extent.Statement.{statement}
 use Rattle.cell_occupancy.proofs.jumps.collision_extent.Tie as tie
 
-abbrev Inv-loop : tie.InvT-loop
-Inv-loop part start end k₀ k = (k ≤ length part / 4) × (extentOf (recs (length part / 4) part) (toZ w16 start) (toZ w16 end) ≡ extentOf (recs k part) (toZ w16 start) (toZ w16 end))
+starting-before-requires : tie.Need-starting-before-requires
+starting-before-requires c κs = c .pre
 
-abbrev μ-loop : tie.MeasureT-loop
-μ-loop part start end k₀ k = k
+-- how many start before the end, and that the others don't count
+module _ (c : tie.After-starting-before) where
+  abbrev s : tie.Start
+  s = c .before
 
-loop-holds : tie.Need-loop-holds Inv-loop μ-loop
-loop-holds c = (omega arith, refl)
+  abbrev k : ℕ
+  k = c .starting-before .result
 
-sub-k : tie.Need-sub-k Inv-loop μ-loop
-sub-k c = omega arith
+  split : Starting (s .args .part .now) (length (s .args .part .now) / 4) (s .args .end) k
+  split = rw (toZ-ofZ (s .fits .end)) at (c .starting-before .ensures)
 
-mul-number : tie.Need-mul-number Inv-loop μ-loop
-mul-number c = omega arith
+  front : extentOf (recs (length (s .args .part .now) / 4) (s .args .part .now)) (s .args .start) (s .args .end) ≡ extentOf (recs k (s .args .part .now)) (s .args .start) (s .args .end)
+  front = late-off (s .args .part .now) (s .args .start) (s .args .end) k (length (s .args .part .now) / 4) (split .within) (split .above)
 
-add-number : tie.Need-add-number Inv-loop μ-loop
-add-number c = omega arith
+returns : tie.Need-returns
+returns c =
+    let a = c .before in
+    let e : k a ≡ 0 = c .if1 .taken in
+    sym (front a ∙ ap (λ (m : ℕ). extentOf (recs m (s a .args .part .now)) (s a .args .start) (s a .args .end)) e)
 
-number-requires : tie.Need-number-requires Inv-loop μ-loop
-number-requires c κs = omega arith
+sub-number : tie.Need-sub-number
+sub-number c = search needs
 
-mul-number-2 : tie.Need-mul-number-2 Inv-loop μ-loop
-mul-number-2 c = omega arith
+mul-number : tie.Need-mul-number
+mul-number c = omega (arith, split (c .before) .within)
 
-add-number-2 : tie.Need-add-number-2 Inv-loop μ-loop
-add-number-2 c = omega arith
+add-number : tie.Need-add-number
+add-number c = omega (arith, split (c .before) .within)
 
-number-requires-2 : tie.Need-number-requires-2 Inv-loop μ-loop
-number-requires-2 c κs = omega arith
+number-requires : tie.Need-number-requires
+number-requires c κs = omega (arith, split (c .before) .within, c .if1 .left)
 
--- after the first read: the answer goes by whether this record overlaps
-module _ (c : tie.After-number Inv-loop μ-loop) where
-  abbrev z : tie.Start Inv-loop μ-loop
-  z = c .before .before .before
-
-  abbrev l : List ℤ
-  l = z .args .part .now
+-- once the last of them is read
+module _ (c : tie.After-number) where
+  abbrev a : tie.After-starting-before
+  a = c .before .before
 
   abbrev j : ℕ
-  j = c .before .before .loop .k - 1
+  j = k a - 1
 
-  left-over : extentOf (recs (length l / 4) l) (z .args .start) (z .args .end) ≡ extentOf (recs (c .before .before .loop .k) l) (z .args .start) (z .args .end)
-  left-over = rw (toZ-ofZ (z .fits .start), toZ-ofZ (z .fits .end)) at (c .before .before .loop .inv .1)
+  some : k a ≡ suc j
+  some = omega (arith, c .before .if1 .left)
 
-  stepped : extentOf (recs (length l / 4) l) (z .args .start) (z .args .end) ≡ cond (ltZ (startNo l j) (z .args .end) && ltZ (z .args .start) (endNo l j)) (Ends (endNo l j)) (extentOf (recs j l) (z .args .start) (z .args .end))
-  stepped = left-over ∙ extent-step l (z .args .start) (z .args .end) (c .before .before .loop .k) j (omega (arith, c .before .loop-test))
-
-returns : tie.Need-returns Inv-loop μ-loop
-returns c =
-    let a = c .before .before .before in
-    let e : toZ w16 (ofZ w16 (c .before .number2 .result)) ≡ endNo (l a) (j a) = omega signed in
-    rw (e, stepped a, g-lt-true (startNo (l a) (j a)) (z a .args .end) (omega signed), g-lt-true (z a .args .start) (endNo (l a) (j a)) (omega signed))
-
-returns-2 : tie.Need-returns-2 Inv-loop μ-loop
+returns-2 : tie.Need-returns-2
 returns-2 c =
-    let a = c .before .before .before in
-    sym (left-over a ∙ settled (z a .pre) (z a .args .start) (z a .args .end) (a .before .before .loop .k) (j a) (omega (arith, a .before .loop-test)) (omega (arith, a .before .loop-test)) (omega signed))
+    let n = c .before in
+    let z = s (a n) in
+    let l = z .args .part .now in
+    let e : toZ w16 (ofZ w16 (n .number .result)) ≡ endNo l (j n) = omega signed in
+    let b = split (a n) .below (j n) (omega (arith, some n)) in
+    rw (e, front (a n), extent-step l (z .args .start) (z .args .end) (k (a n)) (j n) (some n), g-lt-true (startNo l (j n)) (z .args .end) (omega signed), g-lt-true (z .args .start) (endNo l (j n)) (omega signed))
 
-loop-less : tie.Need-loop-less Inv-loop μ-loop
-loop-less c = omega arith
-
-loop-again : tie.Need-loop-again Inv-loop μ-loop
-loop-again c =
-    let a = c .before in
-    (omega arith, rw (toZ-ofZ (z a .fits .start), toZ-ofZ (z a .fits .end), stepped a, g-lt-false (startNo (l a) (j a)) (z a .args .end) (omega signed)))
-
-returns-3 : tie.Need-returns-3 Inv-loop μ-loop
+returns-3 : tie.Need-returns-3
 returns-3 c =
-    let s = c .before .before in
-    let e : c .before .loop .k ≡ 0 = omega arith in
-    sym ((rw (toZ-ofZ (s .fits .start), toZ-ofZ (s .fits .end)) at (c .before .loop .inv .1)) ∙ ap (λ (m : ℕ). extentOf (recs m (s .args .part .now)) (s .args .start) (s .args .end)) e)
+    let n = c .before in
+    let z = s (a n) in
+    sym (front (a n) ∙ settled (z .pre) (z .args .start) (z .args .end) (k (a n)) (j n) (some n) (omega (arith, some n, split (a n) .within)) (omega signed))
 
 pub collision-extent-spec : {M : Type 1} → statement M
 collision-extent-spec =
     tie.close
-    (tie.spec
-    Inv-loop
-    μ-loop
-    loop-holds
-    sub-k
-    mul-number
-    add-number
-    number-requires
-    mul-number-2
-    add-number-2
-    number-requires-2
-    returns
-    returns-2
-    loop-less
-    loop-again
-    returns-3)
+    (tie.spec starting-before-requires returns sub-number mul-number add-number number-requires returns-2 returns-3)

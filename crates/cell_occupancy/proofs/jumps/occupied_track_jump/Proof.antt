@@ -1,16 +1,17 @@
 -- `jumps::occupied_track_jump`: the last record below the end of the span decides. Assumes nothing.
-use mathlib.Core.Path.{_≡_, sym, ap, _∙_, subst}
+use mathlib.Core.Path.{_≡_, sym, ap, _∙_}
 use Prim.Native.Nat.{ℕ, _-_}
 use native.Mathlib.Omega.{arith}
-use lib.IntN.{ℤ, pos, _+ℤ_}
-use mir.Syntax.{w16, w32}
+use lib.IntN.{pos, _+ℤ_}
+use mir.Syntax.{w16}
 use mir.Val.{toZ, ofZ}
+use mir.Facts.{toZ-ofZ}
 use Rattle.signed.proofs.Laws.{signed}
 use Rattle.cell_occupancy.specs.Inner.{trackNo, Split}
 use Rattle.cell_occupancy.specs.declared.jumps.Jump.the-variants.{Next}
 use Rattle.intervals.proofs.Lists.{holds-room}
 use Rattle.cell_occupancy.proofs.ByIndex.{holds-front}
-use Rattle.cell_occupancy.proofs.Sorted.{sorted}
+use Rattle.cell_occupancy.proofs.Sorted.{sorted, split-as}
 use Rattle.cell_occupancy.proofs.Crossed.{occupied-none, occupied-some}
 use borrow.Author.Needs.{needs}
 use Rattle.cell_occupancy.proofs.jumps.occupied_track_jump.Statement.{statement}
@@ -23,9 +24,7 @@ lower-requires : tie.Need-lower-requires
 lower-requires c κs = (holds-front (c .pre), (omega arith, λ k h. absurd (omega arith)))
 
 split : (a : tie.After-lower) → Split (a .before .args .list .now) (a .before .args .used) (a .before .args .track-end) (a .lower .result)
-split a =
-    let e : toZ w32 (ofZ w32 (toZ w16 (ofZ w16 (a .before .args .track-end)))) ≡ a .before .args .track-end = omega (signed, cast-lower (a .before)) in
-    subst (λ (x : ℤ). Split (a .before .args .list .now) (a .before .args .used) x (a .lower .result)) e (a .lower .ensures .1)
+split a = split-as (toZ-ofZ (cast-lower (a .before)) ∙ toZ-ofZ (a .before .fits .track-end)) (a .lower .ensures .1)
 
 returns : tie.Need-returns
 returns c =

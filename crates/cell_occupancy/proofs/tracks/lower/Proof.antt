@@ -1,80 +1,48 @@
--- `tracks::lower`: what is below lo is below x, what is from hi on is not. Assumes nothing.
-use Prim.Native.Nat.{ℕ, _+_, _-_, _/_, _≤_}
+-- `tracks::lower`: where the last record is below x all are, and else the records are halved. Assumes nothing.
+use borrow.Author.Needs.{needs}
+use Prim.Native.Nat.{_-_}
 use native.Mathlib.Omega.{arith}
-use mir.Syntax.{w32}
-use mir.Val.{toZ}
+use lib.Signed.{_<ℤ_}
 use mir.Facts.{toZ-ofZ}
 use Rattle.signed.proofs.Laws.{signed}
-use Rattle.cell_occupancy.proofs.Sorted.{Halving, go-up, go-down, found}
+use Rattle.cell_occupancy.specs.Inner.{trackNo}
+use Rattle.cell_occupancy.proofs.Sorted.{sorted, split-as}
 use Rattle.cell_occupancy.proofs.tracks.lower.Statement.{statement}
 use Rattle.cell_occupancy.proofs.tracks.lower.Tie as tie
 
-abbrev Inv-loop : tie.InvT-loop
-Inv-loop list from used x lo₀ hi₀ lo hi = (from ≤ lo) × Halving list used (toZ w32 x) lo hi
+sub-number : tie.Need-sub-number
+sub-number c = search needs
 
-abbrev μ-loop : tie.MeasureT-loop
-μ-loop list from used x lo₀ hi₀ lo hi = hi - lo
+mul-number : tie.Need-mul-number
+mul-number c = search needs
 
-loop-holds : tie.Need-loop-holds Inv-loop μ-loop
-loop-holds c = (omega arith, rw (toZ-ofZ (c .fits .x)) (record { order = c .pre .1 .0; left = omega arith; below = c .pre .1 .1; above = λ k a b. absurd (omega arith) }))
+number-requires : tie.Need-number-requires
+number-requires c κs = search needs
 
-sub-mid : tie.Need-sub-mid Inv-loop μ-loop
-sub-mid c = omega arith
+cast-last : tie.Need-cast-last
+cast-last c = omega signed
 
-add-mid : tie.Need-add-mid Inv-loop μ-loop
-add-mid c = omega arith
-
-mul-number : tie.Need-mul-number Inv-loop μ-loop
-mul-number c = omega (arith, c .before .before .pre .0 .room)
-
-number-requires : tie.Need-number-requires Inv-loop μ-loop
-number-requires c κs = omega (arith, c .before .before .pre .0 .room)
-
-cast-track : tie.Need-cast-track Inv-loop μ-loop
-cast-track c = omega signed
-
-add-lo : tie.Need-add-lo Inv-loop μ-loop
-add-lo c = omega arith
-
-loop-less : tie.Need-loop-less Inv-loop μ-loop
-loop-less c = omega arith
-
-abbrev mid : tie.At-loop Inv-loop μ-loop → ℕ
-mid q = q .loop .lo + (q .loop .hi - q .loop .lo) / 2
-
-loop-again : tie.Need-loop-again Inv-loop μ-loop
-loop-again c =
-    let q = c .before .before .before in
-    (omega arith, go-up (q .before .pre .0) (q .loop .inv .1) (mid q) (omega arith) (omega (signed, cast-track (c .before))))
-
-loop-less-2 : tie.Need-loop-less-2 Inv-loop μ-loop
-loop-less-2 c = omega arith
-
-loop-again-2 : tie.Need-loop-again-2 Inv-loop μ-loop
-loop-again-2 c =
-    let q = c .before .before .before in
-    (omega arith, go-down (q .before .pre .0) (q .loop .inv .1) (mid q) (omega arith) (omega arith) (omega (signed, cast-track (c .before))))
-
-returns : tie.Need-returns Inv-loop μ-loop
+returns : tie.Need-returns
 returns c =
-    let q = c .before in
-    (q .loop .inv .0, rw (toZ-ofZ (q .before .fits .x)) at (found (q .loop .inv .1) (c .loop-test .left)))
+    let n = c .before in
+    let s = n .before .before in
+    let a = s .args in
+    let last : trackNo (a .list .now) (a .used - 1) <ℤ a .x = omega (signed, cast-last n, n .number .ensures .1) in (
+      s .pre .1 .0,
+      record {
+        within = omega arith;
+        below = λ k h. let o = sorted (s .pre .0) k (a .used - 1) (omega arith) (omega arith) in omega signed;
+        above = λ k h m. absurd (omega arith);
+      },
+    )
+
+halved-requires : tie.Need-halved-requires
+halved-requires c κs = let s = c .before in (s .pre .0, (s .pre .1 .0, rw (toZ-ofZ (s .fits .x)) (s .pre .1 .1)))
+
+returns-2 : tie.Need-returns-2
+returns-2 c = let s = c .before .before in (c .halved .ensures .0, split-as (toZ-ofZ (s .fits .x)) (c .halved .ensures .1))
 
 pub lower-spec : {M : Type 1} → statement M
 lower-spec =
     tie.close
-    (tie.spec
-    Inv-loop
-    μ-loop
-    loop-holds
-    sub-mid
-    add-mid
-    mul-number
-    number-requires
-    cast-track
-    add-lo
-    loop-less
-    loop-again
-    loop-less-2
-    loop-again-2
-    returns)
+    (tie.spec sub-number mul-number number-requires cast-last returns halved-requires returns-2)

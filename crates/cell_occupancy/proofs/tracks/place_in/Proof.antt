@@ -1,14 +1,15 @@
 -- `tracks::place_in`: two halving searches. Assumes nothing.
-use mathlib.Core.Path.{_≡_, subst}
+use mathlib.Core.Path.{_≡_}
 use Prim.Native.Nat.{_-_}
 use native.Mathlib.Omega.{arith}
-use lib.IntN.{ℤ, pos, _+ℤ_}
+use lib.IntN.{pos, _+ℤ_}
 use mir.Syntax.{w16, w32}
 use mir.Val.{toZ, ofZ}
 use Rattle.signed.proofs.Laws.{signed, rng}
 use Rattle.cell_occupancy.specs.Inner.{Split}
 use Rattle.intervals.proofs.Lists.{holds-room}
 use Rattle.cell_occupancy.proofs.ByIndex.{holds-front}
+use Rattle.cell_occupancy.proofs.Sorted.{split-as}
 use Rattle.cell_occupancy.proofs.Standing.{part-at, stands-empty, stands-some}
 use borrow.Author.Needs.{needs}
 use Rattle.cell_occupancy.proofs.tracks.place_in.Statement.{statement}
@@ -31,13 +32,13 @@ begins : (a : tie.After-lower) → Split (a .before .args .list .now) (a .before
 begins a =
     let s = a .before in
     let e : toZ w32 (ofZ w32 (toZ w16 (ofZ w16 (s .args .track)))) ≡ s .args .track = omega (signed, cast-x s) in
-    subst (λ (x : ℤ). Split (s .args .list .now) (s .args .used) x (a .lower .result)) e (a .lower .ensures .1)
+    split-as e (a .lower .ensures .1)
 
 ends : (b : tie.After-lower2) → Split (b .before .before .args .list .now) (b .before .before .args .used) (b .before .before .args .track +ℤ pos 1) (b .lower2 .result)
 ends b =
     let s = b .before .before in
     let e : toZ w32 (ofZ w32 (toZ w32 (ofZ w32 (toZ w16 (ofZ w16 (s .args .track)))) +ℤ pos 1)) ≡ s .args .track +ℤ pos 1 = omega (signed, cast-x s, add-lower (b .before)) in
-    subst (λ (x : ℤ). Split (s .args .list .now) (s .args .used) x (b .lower2 .result)) e (b .lower2 .ensures .1)
+    split-as e (b .lower2 .ensures .1)
 
 returns : tie.Need-returns
 returns c =
