@@ -19,9 +19,9 @@ use Rattle.flat_records.specs.Fours.{Four, fourAt, fours}
 use Rattle.flat_records.proofs.Parts.{same16}
 use Rattle.flat_records.proofs.Fours.{fours-more, fours-snoc, fourAt-drop-add}
 use Rattle.cell_painting.proofs.Bits.{ζ}
-use Rattle.cell_painting.specs.Reach.{runOf, runs, startOf, leftOf, endOf, rightOf, nil, cons, Built, Pieced, OnTrack}
+use Rattle.cell_painting.specs.Reach.{runOf, runs, four, startOf, leftOf, endOf, rightOf, nil, cons, Built, Pieced, OnTrack}
 
-module _ (t c v d z a b s : ℤ) (T : SFits w16 t) (C : SFits w16 c) (Vv : SFits w16 v) (D : SFits w16 d) (Z : SFits w16 z) (A : SFits w16 a) (B : SFits w16 b) (S : SFits w16 s)
+module _ (c v d z a b s : ℤ) (C : SFits w16 c) (Vv : SFits w16 v) (D : SFits w16 d) (Z : SFits w16 z) (A : SFits w16 a) (B : SFits w16 b) (S : SFits w16 s)
     (st en : ℤ) (o : mag st < 2 ^ 15) (o′ : mag en < 2 ^ 15)
     (e : st ≡ startOf (ζ c) (ofZ w16 (ζ v)) (ζ a) (ofZ w16 (ζ s))) (e′ : en ≡ endOf (ζ d) (ofZ w16 (ζ z)) (ζ b) (ofZ w16 (ζ s))) where
   est : ζ st ≡ startOf c (ofZ w16 v) a (ofZ w16 s)
@@ -36,43 +36,50 @@ module _ (t c v d z a b s : ℤ) (T : SFits w16 t) (C : SFits w16 c) (Vv : SFits
   right : (k : Bool) → k ≡ rightOf (ζ d) (ofZ w16 (ζ z)) (ζ b) (ofZ w16 (ζ s)) → rightOf d (ofZ w16 z) b (ofZ w16 s) ≡ k
   right k h = sym (h ∙ (λ i. rightOf (toZ-ofZ D i) (ofZ w16 (toZ-ofZ Z i)) (toZ-ofZ B i) (ofZ w16 (toZ-ofZ S i))))
 
-  abbrev L1 : ℤ → ℤ → ℤ → ℤ → List Rn
-  L1 x y w u = run (pt x y) (pt x w) (ofZ w16 u) ∷ []
+  -- nothing is left on either side: one record
+  pub one-piece : (t : ℤ) → false ≡ leftOf (ζ c) (ofZ w16 (ζ v)) (ζ a) (ofZ w16 (ζ s)) → false ≡ rightOf (ζ d) (ofZ w16 (ζ z)) (ζ b) (ofZ w16 (ζ s))
+      → Built t c v d z a b s (four t (ζ st) (ζ en) s ∷ [])
+  one-piece t h k =
+      record { is = (λ i. run (pt t (est i)) (pt t (een i)) (ofZ w16 s) ∷ []) ∙ sym (rw (left false h, right false k)); stored = cons (toZ-ofZ S) nil; placed = cons refl nil }
 
-  pub b3 : true ≡ leftOf (ζ c) (ofZ w16 (ζ v)) (ζ a) (ofZ w16 (ζ s)) → true ≡ rightOf (ζ d) (ofZ w16 (ζ z)) (ζ b) (ofZ w16 (ζ s))
-      → Built t c v d z a b s (fours 3 (ζ t ∷ ζ c ∷ ζ a ∷ ζ v ∷ ζ t ∷ ζ st ∷ ζ en ∷ ζ s ∷ ζ t ∷ ζ b ∷ ζ d ∷ ζ z ∷ []))
-  b3 h k = record {
-    is = (λ i. L1 (toZ-ofZ T i) (toZ-ofZ C i) (toZ-ofZ A i) (toZ-ofZ Vv i) ++ (run (pt (toZ-ofZ T i) (est i)) (pt (toZ-ofZ T i) (een i)) (ofZ w16 (toZ-ofZ S i)) ∷ L1 (toZ-ofZ T i) (toZ-ofZ B i) (toZ-ofZ D i) (toZ-ofZ Z i)))
-        ∙ sym (rw (left true h, right true k));
-    stored = cons (ap ζ (toZ-ofZ Vv)) (cons (ap ζ (toZ-ofZ S)) (cons (ap ζ (toZ-ofZ Z)) nil));
-    placed = cons (toZ-ofZ T) (cons (toZ-ofZ T) (cons (toZ-ofZ T) nil));
-  }
+  module _ (t : ℤ) (T : SFits w16 t) where
+    abbrev L1 : ℤ → ℤ → ℤ → ℤ → List Rn
+    L1 x y w u = run (pt x y) (pt x w) (ofZ w16 u) ∷ []
 
-  pub b2l : true ≡ leftOf (ζ c) (ofZ w16 (ζ v)) (ζ a) (ofZ w16 (ζ s)) → false ≡ rightOf (ζ d) (ofZ w16 (ζ z)) (ζ b) (ofZ w16 (ζ s))
-      → Built t c v d z a b s (fours 2 (ζ t ∷ ζ c ∷ ζ a ∷ ζ v ∷ ζ t ∷ ζ st ∷ ζ en ∷ ζ s ∷ pos 0 ∷ pos 0 ∷ pos 0 ∷ pos 0 ∷ []))
-  b2l h k = record {
-    is = (λ i. L1 (toZ-ofZ T i) (toZ-ofZ C i) (toZ-ofZ A i) (toZ-ofZ Vv i) ++ (run (pt (toZ-ofZ T i) (est i)) (pt (toZ-ofZ T i) (een i)) (ofZ w16 (toZ-ofZ S i)) ∷ []))
-        ∙ sym (rw (left true h, right false k));
-    stored = cons (ap ζ (toZ-ofZ Vv)) (cons (ap ζ (toZ-ofZ S)) nil);
-    placed = cons (toZ-ofZ T) (cons (toZ-ofZ T) nil);
-  }
+    pub b3 : true ≡ leftOf (ζ c) (ofZ w16 (ζ v)) (ζ a) (ofZ w16 (ζ s)) → true ≡ rightOf (ζ d) (ofZ w16 (ζ z)) (ζ b) (ofZ w16 (ζ s))
+        → Built t c v d z a b s (fours 3 (ζ t ∷ ζ c ∷ ζ a ∷ ζ v ∷ ζ t ∷ ζ st ∷ ζ en ∷ ζ s ∷ ζ t ∷ ζ b ∷ ζ d ∷ ζ z ∷ []))
+    b3 h k = record {
+      is = (λ i. L1 (toZ-ofZ T i) (toZ-ofZ C i) (toZ-ofZ A i) (toZ-ofZ Vv i) ++ (run (pt (toZ-ofZ T i) (est i)) (pt (toZ-ofZ T i) (een i)) (ofZ w16 (toZ-ofZ S i)) ∷ L1 (toZ-ofZ T i) (toZ-ofZ B i) (toZ-ofZ D i) (toZ-ofZ Z i)))
+          ∙ sym (rw (left true h, right true k));
+      stored = cons (ap ζ (toZ-ofZ Vv)) (cons (ap ζ (toZ-ofZ S)) (cons (ap ζ (toZ-ofZ Z)) nil));
+      placed = cons (toZ-ofZ T) (cons (toZ-ofZ T) (cons (toZ-ofZ T) nil));
+    }
 
-  pub b2r : false ≡ leftOf (ζ c) (ofZ w16 (ζ v)) (ζ a) (ofZ w16 (ζ s)) → true ≡ rightOf (ζ d) (ofZ w16 (ζ z)) (ζ b) (ofZ w16 (ζ s))
-      → Built t c v d z a b s (fours 2 (ζ t ∷ ζ st ∷ ζ en ∷ ζ s ∷ ζ t ∷ ζ b ∷ ζ d ∷ ζ z ∷ pos 0 ∷ pos 0 ∷ pos 0 ∷ pos 0 ∷ []))
-  b2r h k = record {
-    is = (λ i. run (pt (toZ-ofZ T i) (est i)) (pt (toZ-ofZ T i) (een i)) (ofZ w16 (toZ-ofZ S i)) ∷ L1 (toZ-ofZ T i) (toZ-ofZ B i) (toZ-ofZ D i) (toZ-ofZ Z i))
-        ∙ sym (rw (left false h, right true k));
-    stored = cons (ap ζ (toZ-ofZ S)) (cons (ap ζ (toZ-ofZ Z)) nil);
-    placed = cons (toZ-ofZ T) (cons (toZ-ofZ T) nil);
-  }
+    pub b2l : true ≡ leftOf (ζ c) (ofZ w16 (ζ v)) (ζ a) (ofZ w16 (ζ s)) → false ≡ rightOf (ζ d) (ofZ w16 (ζ z)) (ζ b) (ofZ w16 (ζ s))
+        → Built t c v d z a b s (fours 2 (ζ t ∷ ζ c ∷ ζ a ∷ ζ v ∷ ζ t ∷ ζ st ∷ ζ en ∷ ζ s ∷ pos 0 ∷ pos 0 ∷ pos 0 ∷ pos 0 ∷ []))
+    b2l h k = record {
+      is = (λ i. L1 (toZ-ofZ T i) (toZ-ofZ C i) (toZ-ofZ A i) (toZ-ofZ Vv i) ++ (run (pt (toZ-ofZ T i) (est i)) (pt (toZ-ofZ T i) (een i)) (ofZ w16 (toZ-ofZ S i)) ∷ []))
+          ∙ sym (rw (left true h, right false k));
+      stored = cons (ap ζ (toZ-ofZ Vv)) (cons (ap ζ (toZ-ofZ S)) nil);
+      placed = cons (toZ-ofZ T) (cons (toZ-ofZ T) nil);
+    }
 
-  pub b1 : false ≡ leftOf (ζ c) (ofZ w16 (ζ v)) (ζ a) (ofZ w16 (ζ s)) → false ≡ rightOf (ζ d) (ofZ w16 (ζ z)) (ζ b) (ofZ w16 (ζ s))
-      → Built t c v d z a b s (fours 1 (ζ t ∷ ζ st ∷ ζ en ∷ ζ s ∷ pos 0 ∷ pos 0 ∷ pos 0 ∷ pos 0 ∷ pos 0 ∷ pos 0 ∷ pos 0 ∷ pos 0 ∷ []))
-  b1 h k = record {
-    is = (λ i. run (pt (toZ-ofZ T i) (est i)) (pt (toZ-ofZ T i) (een i)) (ofZ w16 (toZ-ofZ S i)) ∷ []) ∙ sym (rw (left false h, right false k));
-    stored = cons (ap ζ (toZ-ofZ S)) nil;
-    placed = cons (toZ-ofZ T) nil;
-  }
+    pub b2r : false ≡ leftOf (ζ c) (ofZ w16 (ζ v)) (ζ a) (ofZ w16 (ζ s)) → true ≡ rightOf (ζ d) (ofZ w16 (ζ z)) (ζ b) (ofZ w16 (ζ s))
+        → Built t c v d z a b s (fours 2 (ζ t ∷ ζ st ∷ ζ en ∷ ζ s ∷ ζ t ∷ ζ b ∷ ζ d ∷ ζ z ∷ pos 0 ∷ pos 0 ∷ pos 0 ∷ pos 0 ∷ []))
+    b2r h k = record {
+      is = (λ i. run (pt (toZ-ofZ T i) (est i)) (pt (toZ-ofZ T i) (een i)) (ofZ w16 (toZ-ofZ S i)) ∷ L1 (toZ-ofZ T i) (toZ-ofZ B i) (toZ-ofZ D i) (toZ-ofZ Z i))
+          ∙ sym (rw (left false h, right true k));
+      stored = cons (ap ζ (toZ-ofZ S)) (cons (ap ζ (toZ-ofZ Z)) nil);
+      placed = cons (toZ-ofZ T) (cons (toZ-ofZ T) nil);
+    }
+
+    pub b1 : false ≡ leftOf (ζ c) (ofZ w16 (ζ v)) (ζ a) (ofZ w16 (ζ s)) → false ≡ rightOf (ζ d) (ofZ w16 (ζ z)) (ζ b) (ofZ w16 (ζ s))
+        → Built t c v d z a b s (fours 1 (ζ t ∷ ζ st ∷ ζ en ∷ ζ s ∷ pos 0 ∷ pos 0 ∷ pos 0 ∷ pos 0 ∷ pos 0 ∷ pos 0 ∷ pos 0 ∷ pos 0 ∷ []))
+    b1 h k = record {
+      is = (λ i. run (pt (toZ-ofZ T i) (est i)) (pt (toZ-ofZ T i) (een i)) (ofZ w16 (toZ-ofZ S i)) ∷ []) ∙ sym (rw (left false h, right false k));
+      stored = cons (ap ζ (toZ-ofZ S)) nil;
+      placed = cons (toZ-ofZ T) nil;
+    }
 
 -- ---- from the first and the last record to `new`
 
@@ -164,6 +171,10 @@ alone l i j t a b s T A B S e = record {
   stored = cons (ap ζ (toZ-ofZ S)) nil;
   placed = cons (toZ-ofZ T) nil;
 }
+
+pub one-alone : (l : List ℤ) (i j : ℕ) (t a b s : ℤ) → SFits w16 s → j - i ≡ 0 → Pieced t a b (ofZ w16 s) (fours (j - i) (drop (4 * i) l)) (four t a b s ∷ [])
+one-alone l i j t a b s S e =
+    record { is = sym (ap (λ (k : ℕ). new lx (pt t a) (pt t b) (ofZ w16 s) (runs (fours k (drop (4 * i) l)))) e); stored = cons (toZ-ofZ S) nil; placed = cons refl nil }
 
 -- a callee speaks of its arguments as read back
 pub plain : {t c v d z a b s : ℤ} (put : List Four) → SFits w16 t → SFits w16 c → SFits w16 v → SFits w16 d → SFits w16 z → SFits w16 a → SFits w16 b → SFits w16 s

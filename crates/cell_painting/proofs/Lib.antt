@@ -4,7 +4,9 @@ pub mod Found
 pub mod Above
 pub mod Count
 pub mod Moves
+pub mod Room
 pub mod Sweep
 pub mod Swept
+pub mod InPlace
 pub mod Whole
 pub mod Callers

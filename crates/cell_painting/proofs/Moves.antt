@@ -82,13 +82,13 @@ module _ (all : Bool) {a b s t : ℤ} {l : List ℤ} {r w top : ℕ} (g : Gapped
   abbrev rs : List Rn
   rs = held l r w top
 
-  s-found : Found l r t a b σ W i j
+  pub s-found : Found l r t a b σ W i j
   s-found = found l r t a b σ W i j (good .less) (good .state) (omega (arith, g .low, g .high, g .room)) (g .keep) late (q .past) (q .first)
 
   pub s-within : Within l r w top i j
   s-within = record { first = s-found .low; past = s-found .high; low = g .low; high = g .high; room = g .room }
 
-  whole : fours r l ++ W ≡ pre ++ (mid ++ (post ++ W))
+  pub whole : fours r l ++ W ≡ pre ++ (mid ++ (post ++ W))
   whole = ap (λ (x : List Four). x ++ W) (s-found .parts) ∙ append-assoc pre (mid ++ post) W ∙ ap (λ (x : List Four). pre ++ x) (append-assoc mid post W)
 
   hits : length (H a b σ t rs) ≡ j - i
@@ -97,7 +97,7 @@ module _ (all : Bool) {a b s t : ℤ} {l : List ℤ} {r w top : ℕ} (g : Gapped
   news : length (N a b σ t rs) ≡ n
   news = ap (λ (x : List Rn). length (new lx (pt t a) (pt t b) σ x)) (s-found .hits) ∙ sym (ap length (q .become .is)) ∙ length-runs (fours n put) ∙ length-fours n put
 
-  painted : P a b σ t rs ≡ runs (pre ++ (fours n put ++ (post ++ W)))
+  pub painted : P a b σ t rs ≡ runs (pre ++ (fours n put ++ (post ++ W)))
   painted =
       s-found .paints ∙ (λ k. runs pre ++ (sym (q .become .is) k ++ runs (post ++ W)))
       ∙ ap (λ (x : List Rn). runs pre ++ x) (sym (map-append runOf (fours n put) (post ++ W))) ∙ sym (map-append runOf pre (fours n put ++ (post ++ W)))

@@ -24,7 +24,7 @@ use Rattle.cell_painting.proofs.Count.{halves}
 use Rattle.cell_painting.proofs.Sweep.{Lifted, SInv, drop-later, down-long, down-all, down-past}
 
 -- two lists, cut at one place
-rests : (xs ys : List Four) {us vs : List Four} (n : ℕ) → length xs ≡ n → length ys ≡ n → xs ++ us ≡ ys ++ vs → us ≡ vs
+pub rests : (xs ys : List Four) {us vs : List Four} (n : ℕ) → length xs ≡ n → length ys ≡ n → xs ++ us ≡ ys ++ vs → us ≡ vs
 rests xs ys {us} {vs} n h k e = sym (drop-at xs us n h) ∙ ap (drop n) e ∙ drop-at ys vs n k
 
 -- the gap is closed, and what is freed is wiped

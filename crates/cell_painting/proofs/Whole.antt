@@ -5,13 +5,15 @@ use mathlib.Core.List.{List, [], _∷_, _++_, map}
 use Prim.Native.Nat.{ℕ, zero, suc, _+_, _-_, _*_, _≤_, _<_, _/_}
 use native.Mathlib.Nat.{div-lt-iff-lt-mul, le-div-iff-mul-le}
 use native.Mathlib.Omega.{arith}
-use lib.Dec.{eqb}
+use lib.Dec.{eqb, ltb}
 use lib.IntN.{ℤ, pos, negsuc, natAbs}
 use lib.Signed.{ltZ}
 use lib.ListN.{length, drop, getD, replicate, length-map}
 use mir.Syntax.{w16}
 use mir.Val.{toZ, ofZ}
-use borrow.Author.Tests.{eqb-true}
+use borrow.Author.Tests.{eqb-true, ltb-true, ltb-false, lt-ltb, le-ltb}
+use Rattle.signed.specs.Parts.{gap}
+use Rattle.signed.proofs.Laws.{by-test}
 use Rattle.intervals.specs.Records.{Rec, rec, behind, follows}
 use Rattle.intervals.specs.Paint.{run, Point, pt, toRun, toRec}
 use Rattle.intervals.specs.OverInt.{ok, keeps, fit, paintList, span, encode, flat}
@@ -34,6 +36,7 @@ use Rattle.cell_painting.specs.Passes.{Good, Ready, Roomy, Swept}
 use Rattle.cell_painting.proofs.Build.{map-append}
 use Rattle.cell_painting.proofs.Above.{in-span}
 use Rattle.cell_painting.proofs.Count.{length-runs}
+use Rattle.cell_painting.proofs.Room.{two-each}
 
 -- ---- states: 1 and 2 are their own bits
 
@@ -168,12 +171,35 @@ module _ {l : List ℤ} {used : ℕ} {t₁ t₂ a b s : ℤ} (q : Asked l used t
   pub total-runs : (n : ℕ) → n ≡ length R → n ≡ length (PT a b (ofZ w16 s) us A)
   total-runs n e = e ∙ ap length list-is ∙ length-map (PT a b (ofZ w16 s) us A) toRec
 
+  -- what one sweep leaves that paints all
+  pub painted : {y : List ℤ} {m : ℕ} → Swept true a b s t₁ t₂ l used y m → (m ≡ length R) × (y ≡ flat (length l) R)
+  painted {y} {m} w =
+      let v : runs (fours m y) ≡ PT a b (ofZ w16 s) us A = w .is ∙ sw-all a b (ofZ w16 s) (good .less) (good .state) us A in
+      let ky : K (runs (fours m y)) = subst K (sym v) (PT-keep a b (ofZ w16 s) (good .less) (good .state) us keep) in
+      let c : enc (fours m y) ≡ encode R = enc-keeps (fours m y) ky (w .stored) ∙ ap (λ (z : List Rn). encode (map toRec z)) v ∙ sym (ap encode list-is) in
+      let d : m ≡ length (PT a b (ofZ w16 s) us A) = sym (length-runs (fours m y) ∙ length-fours m y) ∙ ap length v in
+      let z : length y - 4 * length (fours m y) ≡ length l - length (encode R) = omega (arith, length-enc (fours m y), ap length c, w .long) in
+      (total-is m d, laid-is y m (w .laid) ∙ (λ i. c i ++ replicate (z i) (pos 0)))
+
   -- the first sweep
+  pub ready-to : (top : ℕ) → used ≤ top → 4 * top ≤ length l → Ready l used top
+  ready-to top h r = record { laid = record { fits = holds-room (q .holds); zeros = holds-zeros (q .holds) }; low = h; room = r; keep = keep; stored = stored }
+
   pub ready-one : Ready l used used
-  ready-one = record { laid = record { fits = holds-room (q .holds); zeros = holds-zeros (q .holds) }; low = omega arith; room = holds-room (q .holds); keep = keep; stored = stored }
+  ready-one = ready-to used (omega arith) (holds-room (q .holds))
 
   A-long : length A ≡ used
   A-long = length-runs (fours used l) ∙ length-fours used l
+
+  -- in a list that has two places more for each track, one sweep has room
+  pub roomy-all : (top : ℕ) → top ≡ used + 2 * gap t₁ t₂ → Roomy true a b s t₁ t₂ top A
+  roomy-all top e = two-each t₁ t₂ good keep A-long e
+
+  -- and so there is room for what it leaves
+  pub room-enough : 4 * (used + 2 * gap t₁ t₂) ≤ length l → 4 * length R ≤ length l
+  room-enough h =
+      let n : length R ≡ length (PT a b (ofZ w16 s) us A) = total-runs (length R) refl in
+      omega (arith, roomy-all (used + 2 * gap t₁ t₂) refl .at t₁ (int-linear .irr t₁), ap length (sw-all a b (ofZ w16 s) (good .less) (good .state) us A))
 
   pub roomy-one : Roomy false a b s t₁ t₂ used A
   roomy-one = record { at = λ t k. omega (arith, (shrunk a b (ofZ w16 s) (good .less) (good .state) us (span t t₂) (in-span t₁ t₂ t k) keep) .less, A-long) }
@@ -216,13 +242,12 @@ module _ {l : List ℤ} {used : ℕ} {t₁ t₂ a b s : ℤ} (q : Asked l used t
     -- and the end
     pub done : {y : List ℤ} {m : ℕ} → Swept true a b s t₁ t₂ x n y m → (m ≡ length R) × (y ≡ flat (length l) R)
     done {y} {m} w =
-        let v : runs (fours m y) ≡ PT a b (ofZ w16 s) us A = w .is ∙ sw-all a b (ofZ w16 s) (good .less) (good .state) us (runs (fours n x)) ∙ ends in
-        let ky : K (runs (fours m y)) = subst K (sym v) (PT-keep a b (ofZ w16 s) (good .less) (good .state) us keep) in
-        let c : enc (fours m y) ≡ encode R = enc-keeps (fours m y) ky (w .stored) ∙ ap (λ (z : List Rn). encode (map toRec z)) v ∙ sym (ap encode list-is) in
-        let d : m ≡ length (PT a b (ofZ w16 s) us A) = sym (length-runs (fours m y) ∙ length-fours m y) ∙ ap length v in
-        let ly : length y ≡ length l = w .long ∙ p .long in
-        let z : length y - 4 * length (fours m y) ≡ length l - length (encode R) = omega (arith, length-enc (fours m y), ap length c) in
-        (total-is m d, laid-is y m (w .laid) ∙ (λ i. c i ++ replicate (z i) (pos 0)))
+        painted (record {
+          laid = w .laid;
+          long = w .long ∙ p .long;
+          is = w .is ∙ sw-all a b (ofZ w16 s) (good .less) (good .state) us (runs (fours n x)) ∙ ends ∙ sym (sw-all a b (ofZ w16 s) (good .less) (good .state) us A);
+          stored = w .stored;
+        })
 
 -- ---- `x / 4 < y` is asked in place of `x < 4 * y`, which need not fit
 
@@ -231,3 +256,9 @@ quarter-lt x y h = omega (arith, (div-lt-iff-lt-mul {k = 4} {x = x} {y = y} (ome
 
 pub quarter-le : (x y : ℕ) → y ≤ x / 4 → 4 * y ≤ x
 quarter-le x y h = omega (arith, (le-div-iff-mul-le {k = 4} {x = y} {y = x} (omega arith)) .0 h)
+
+pub quarter : (n k : ℕ) → ltb (n / 4) k ≡ ltb n (4 * k)
+quarter n k =
+    by-test (ltb (n / 4) k) (λ (b : Bool). b ≡ ltb n (4 * k))
+    (λ e. sym (lt-ltb n (4 * k) (quarter-lt n k (ltb-true (n / 4) k e))))
+    (λ e. sym (le-ltb n (4 * k) (quarter-le n k (ltb-false (n / 4) k e))))

@@ -51,6 +51,15 @@ pub record Stepped (all : Bool) (a b s t : ℤ) (l : List ℤ) (r w top : ℕ) (
   pub above : Above t (fours (top - w′) (drop (4 * w′) x))
   pub down : w′ ≤ w
 
+-- what a step in place leaves of used records, r of them not behind the track: n records, r′ of them before the track
+pub record InPlace (a b s t : ℤ) (l : List ℤ) (r used : ℕ) (x : List ℤ) (r′ n : ℕ) : Type 0 where
+  pub gapped : Gapped x r′ r′ n
+  pub laid : Laid x n
+  pub long : length x ≡ length l
+  pub is : held x r′ r′ n ≡ P a b (ofZ w16 s) t (held l r r used)
+  pub above : Above t (fours (n - r′) (drop (4 * r′) x))
+  pub few : n ≤ used + 2
+
 -- what a sweep requires: the records, and room up to `top`
 pub record Ready (l : List ℤ) (used top : ℕ) : Type 0 where
   pub laid : Laid l used

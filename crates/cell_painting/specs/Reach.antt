@@ -20,6 +20,9 @@ runOf r = run (pt (r .track) (r .start)) (pt (r .track) (r .end)) (ofZ w16 (r .s
 abbrev pub runs : List Four → List Rn
 runs rs = map runOf rs
 
+abbrev pub four : ℤ → ℤ → ℤ → ℤ → Four
+four t c d v = record { track = t; start = c; end = d; state = v }
+
 -- the record ends before the interval from a on, on track t
 abbrev pub earlyR : Four → ℤ → ℤ → ℕ → Bool
 earlyR r t a s = gapb lx (pt (r .track) (r .end)) (ofZ w16 (r .state)) (pt t a) s

@@ -5,8 +5,10 @@ ghost use lib.ListN.{length, drop};
 ghost use mir.Val.{ofZ};
 ghost use mir.Syntax.{w16};
 ghost use Rattle.flat_records.specs.Fours.{fours};
-ghost use Rattle.cell_painting.specs.Reach.{Apart, Reaches, startOf, leftOf, endOf, rightOf, Pieced, Built, OnTrack};
-ghost use mathlib.Core.Bool.{false};
+ghost use Rattle.cell_painting.specs.Reach.{Apart, Reaches, four, startOf, leftOf, endOf, rightOf, Pieced, Built, OnTrack};
+ghost use mathlib.Core.Bool.{true, false};
+ghost use mathlib.Core.List.{[], _∷_};
+ghost use lib.IntN.{ℤ};
 use crate::reach::after_early;
 use crate::reach::before_late;
 
@@ -107,6 +109,46 @@ fn cut_out(list: &[i16], i: usize, j: usize, t: i16, a: i16, b: i16, s: i16) -> 
     let d = list[4 * (j - 1) + 2];
     let z = list[4 * (j - 1) + 3];
     build(t, c, v, d, z, a, b, s)
+}
+
+// Whether the records that a paint reaches become one, and its lines.
+pub struct OneRecord {
+    pub so: bool,
+    pub start: i16,
+    pub end: i16,
+}
+
+// Whether the records i..j, which are those that the paint of a track reaches, become one record. Mostly they do: the paint fills free places,
+// or goes on from a record in the same state.
+pub fn joined(list: &[i16], i: usize, j: usize, a: i16, b: i16, s: i16) -> OneRecord
+    requires { ⌜ (i ≤ j) × (4 * j ≤ length (now list)) ⌝ }
+    ensures { λ r. ⌜ ((t : ℤ) → OnTrack (now (list .entry)) i j t → r .so ≡ true → Pieced t a b (ofZ w16 s) (fours (j - i) (drop (4 * i) (now (list .entry)))) (four t (r .start) (r .end) s ∷ [])) ⌝ }
+{
+    if i == j {
+        return OneRecord {
+            so: true,
+            start: a,
+            end: b,
+        };
+    }
+    let c = list[4 * i + 1];
+    let v = list[4 * i + 3];
+    let d = list[4 * (j - 1) + 2];
+    let z = list[4 * (j - 1) + 3];
+    let start = start_of(c, v, a, s);
+    let end = end_of(d, z, b, s);
+    if left_of(c, v, a, s) {
+        return OneRecord {
+            so: false,
+            start,
+            end,
+        };
+    }
+    OneRecord {
+        so: !right_of(d, z, b, s),
+        start,
+        end,
+    }
 }
 
 // Which of the first n records the paint of one track reaches, first..past, and what becomes of them: the first `new` records of `put`.

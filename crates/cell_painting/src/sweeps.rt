@@ -31,7 +31,7 @@ fn wanted(all: bool, n: usize, k: usize) -> bool
 }
 
 // `move_up`, for nothing where there is nothing to do.
-fn lift(list: &mut [i16], from: usize, used: usize, by: usize)
+pub fn lift(list: &mut [i16], from: usize, used: usize, by: usize)
     requires { ⌜ from ≤ used ⌝ }
     requires { ⌜ used + by ≤ length (now list) ⌝ }
     ensures { λ _. ⌜ now (list .exit) ≡ paste (now (list .entry)) (from + by) (drop from (now (list .entry))) (used - from) ⌝ }

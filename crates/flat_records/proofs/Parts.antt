@@ -106,6 +106,16 @@ module _ {ℓ} {A : Type ℓ} where
         long = length-set list at′ x ∙ v .long;
       }
 
+  -- four stores, one behind the other
+  pub four-stores : (l : List A) (at : ℕ) (a b c d : A) → at + 4 ≤ length l → set (set (set (set l at a) (at + 1) b) (at + 2) c) (at + 3) d ≡ paste l at (a ∷ b ∷ c ∷ d ∷ []) 4
+  four-stores l at a b c d h =
+      let s = a ∷ b ∷ c ∷ d ∷ [] in
+      let p0 : Pasted l at s 0 l = pasted-none l at s 0 refl in
+      let p1 : Pasted l at s 1 (set l at a) = pasted-more 1 at a a p0 refl (omega arith) (omega arith) (omega arith) refl in
+      let p2 : Pasted l at s 2 (set (set l at a) (at + 1) b) = pasted-more 2 (at + 1) b a p1 refl refl (omega arith) (omega arith) refl in
+      let p3 : Pasted l at s 3 (set (set (set l at a) (at + 1) b) (at + 2) c) = pasted-more 3 (at + 2) c a p2 refl refl (omega arith) (omega arith) refl in
+      (pasted-more 4 (at + 3) d a p3 refl refl (omega arith) (omega arith) refl) .is
+
   -- the four elements at an index, and the rest
   pub drop-four : (l : List A) (at : ℕ) (z : A) → at + 4 ≤ length l
       → drop at l ≡ getD l at z ∷ getD l (at + 1) z ∷ getD l (at + 2) z ∷ getD l (at + 3) z ∷ drop (at + 4) l

@@ -1,5 +1,6 @@
 // Moving, storing and wiping numbers of a list in place.
 ghost use mathlib.Core.Path.{_≡_};
+ghost use mathlib.Core.List.{[], _∷_};
 ghost use Prim.Native.Nat.{_+_, _-_, _≤_, _<_};
 ghost use lib.ListN.{length, drop, replicate};
 ghost use lib.Seq.{paste};
@@ -59,4 +60,15 @@ pub fn put_in(list: &mut [i16], at: usize, put: [i16; 12], n: usize)
         list[at + i] = x;
         i += 1;
     }
+}
+
+// Four numbers at at..at + 4.
+pub fn put_four(list: &mut [i16], at: usize, a: i16, b: i16, c: i16, d: i16)
+    requires { ⌜ at + 4 ≤ length (now list) ⌝ }
+    ensures { λ _. ⌜ now (list .exit) ≡ paste (now (list .entry)) at (a ∷ b ∷ c ∷ d ∷ []) 4 ⌝ }
+{
+    list[at] = a;
+    list[at + 1] = b;
+    list[at + 2] = c;
+    list[at + 3] = d;
 }

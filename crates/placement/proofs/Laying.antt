@@ -17,18 +17,10 @@ use Rattle.signed.proofs.Laws.{signed, by-test, g-lt-true}
 use Rattle.intervals.specs.Records.{Rec}
 use Rattle.intervals.specs.OverInt.{fit, ok, paintList}
 use Rattle.cell_painting.specs.Painting.{areaOf, stateOf}
-use Rattle.cell_painting.proofs.Whole.{quarter-lt, quarter-le}
 use Rattle.coordinates.specs.declared.Lines.{Lines}
 use Rattle.coordinates.specs.Line.{Limited}
 use Rattle.walk.specs.Walk.{bit}
 use Rattle.placement.specs.Laying.{refusalOf}
-
--- a quarter of the numbers is below the records just where the numbers are below four times the records
-pub quarter : (n k : ℕ) → ltb (n / 4) k ≡ ltb n (4 * k)
-quarter n k =
-    by-test (ltb (n / 4) k) (λ (b : Bool). b ≡ ltb n (4 * k))
-    (λ e. sym (lt-ltb n (4 * k) (quarter-lt n k (ltb-true (n / 4) k e))))
-    (λ e. sym (le-ltb n (4 * k) (quarter-le n k (ltb-false (n / 4) k e))))
 
 -- limited lines fit 16 bits
 pub start-fits : (l : Lines) → Limited l → SFits w16 (l .start)

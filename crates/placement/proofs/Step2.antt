@@ -5,24 +5,27 @@ use mathlib.Core.Bool.{Bool, true, false, cond, _&&_}
 use mathlib.Core.List.{List, [], _∷_}
 use Prim.Native.Nat.{ℕ, zero, suc, _+_, _*_, _/_, _≤_, _<_}
 use native.Mathlib.Omega.{arith}
-use borrow.Author.Tests.{eq-eqb}
+use borrow.Author.Tests.{eq-eqb, ltb-true, ltb-false}
+use lib.Dec.{ltb}
 use lib.IntN.{ℤ, pos, negsuc, _+ℤ_}
 use lib.ListN.{length, getD, set, drop}
 use lib.Seq.{sets, getD-set-same, getD-set-other}
 use lib.Signed.{_≤ℤ_, _<ℤ_}
 use Rattle.signed.specs.Parts.{eqZ}
-use Rattle.signed.proofs.Laws.{signed}
+use Rattle.signed.proofs.Laws.{signed, by-test, eq-of}
 use Rattle.intervals.specs.Lists.{recs, Holds}
 use Rattle.coordinates.specs.declared.Lines.{Lines}
+use Rattle.coordinates.specs.Line.{limited}
 use Rattle.grid_track_counts.specs.Counts.{gridStart}
 use Rattle.walk.specs.declared.Placement.{Placement}
 use Rattle.walk.specs.declared.Placement.the-variants.{Fixed, Spanned}
-use Rattle.walk.specs.Axis.{Axis, other, Both, on, laid, from}
+use Rattle.walk.specs.Axis.{Axis, col, row, other, Both, on, laid, from, limitedArea}
 use Rattle.walk.specs.Search.{firstLine}
-use Rattle.walk.specs.Walk.{Queued, Tile, Board, Setting, Choice, Run, going, stopped, tileOf, laidOn, endsOn, larger, largest, largestOr, start2, freeAt, choose1, choose2, step1, step2, each}
+use Rattle.walk.specs.Walk.{Queued, Tile, Board, Setting, Choice, Run, going, stopped, tileOf, laidOn, endsOn, start2, freeAt, choose1, choose2, step1, step2, each}
 use Rattle.walk.specs.Rules.{mine2}
 use Rattle.walk.specs.Request.{numbers, itemOf, halves}
 use Rattle.walk.specs.OnList.{written}
+use Rattle.walk.proofs.Tests.{clash}
 use Rattle.walk.proofs.FreeLaws.{step2-first}
 use Rattle.walk.proofs.SearchLaws.{firstLine-high}
 use Rattle.walk.proofs.Range.{Good, lines-good, span-good, Grid, start2-grid}
@@ -41,8 +44,9 @@ use Rattle.placement.specs.declared.Laid.the-variants.{On, Short}
 use Rattle.placement.specs.declared.Stepped.the-variants.{Done, Refused}
 use Rattle.placement.specs.Laying.{Laying}
 use Rattle.placement.specs.Ready.{settingFor, Ready, AfterItem, AfterStep, primaryOf, secondaryOf}
-use Rattle.placement.specs.Ends.{recordedEnd, recordedStart, startPlace, endPlace, counted, endsBefore, startOf, Recorded, NoEnds, StandsAt}
+use Rattle.placement.specs.Ends.{recordedEnd, recordedStart, startPlace, endPlace, counted, endsBefore, EndsLast, Onward, startOf, Recorded, NoEnds, StandsAt}
 use Rattle.placement.proofs.Lays.{put-laid, secondary-recs, secondary-holds}
+use Rattle.placement.proofs.Onward.{ends-onward}
 
 -- ---- which items are this step's
 
@@ -89,16 +93,6 @@ module _ (columns : Bool) (items answers : List ℤ) (c : ℤ) (j : ℕ) where
   pub ends-more : counted columns items answers c j ≡ true → endsBefore columns items answers c (j + 1) ≡ recordedEnd columns answers j ∷ endsBefore columns items answers c j
   unfolding endsBefore
   ends-more e = let f : j + 1 ≡ suc j = omega arith in rw (f, e)
-
--- whether there is an end at all
-abbrev pub filled : List ℤ → Bool
-filled [] = false
-filled (z ∷ zs) = true
-
-pub largest-next : (g e best : ℤ) (found : Bool) (zs : List ℤ) → best ≡ largestOr g zs → found ≡ filled zs → cond found (larger e best) e ≡ largestOr g (e ∷ zs)
-unfolding largestOr largest
-largest-next g e best found [] f h = rw h
-largest-next g e best found (z ∷ zs) f h = rw (h, f)
 
 -- ---- where the search begins, and what it finds
 
@@ -188,24 +182,47 @@ tile-next columns items answers ts t i st mine long rec c =
     let zs = rec c ∙ sym (ends-same columns items answers (numbers t) c (5 * i) i (omega arith)) in
     (λ j. cond (f j && eqZ (s j) c) (z j ∷ zs j) (zs j)) ∙ ap (endsBefore columns items (sets answers (5 * i) (numbers t)) c) e
 
+-- ---- and what the earlier items' answers tell of their ends
+
+ends-last-same : (columns : Bool) (items l vs : List ℤ) (n k : ℕ) → 5 * k + 5 ≤ n → EndsLast columns items l k → EndsLast columns items (sets l n vs) k
+ends-last-same columns items l vs n k h last c e s =
+    let f = start-low columns in
+    let g = end-low columns in
+    rw (below l n vs (5 * k + endPlace columns) (omega arith), ends-same columns items l vs c n k (omega arith))
+    (last c (rw (below l n vs (5 * k + startPlace columns) (omega arith)) at e) s)
+
+onward-more : (columns : Bool) (items l : List ℤ) (i : ℕ) → Onward columns items l i → EndsLast columns items l i → Onward columns items l (i + 1)
+onward-more columns items l i on last j h =
+    by-test (ltb j i) (λ _. EndsLast columns items l j) (λ e. on j (ltb-true j i e))
+    (λ e. let g = ltb-false j i e in let same : i ≡ j = omega arith in subst (λ (y : ℕ). EndsLast columns items l y) same last)
+
+-- the recorded lines are the limited ones
+limited-end : (x : Axis) (p s : Lines) → on x (limitedArea (laid x p s)) .end ≡ limited p .end
+limited-end col p s = refl
+limited-end row p s = refl
+
 module _ (dense : Bool) {columns : Bool} {room : Both ℕ} {old : List ℤ} {b : Board} {m : Matrix} {answers primary secondary : List ℤ} (k : Ready columns room old b m answers primary secondary)
     (items : List ℤ) (i : ℕ) (long : 5 * i + 5 ≤ length answers) (rec : Recorded columns items answers b i)
     (b′ : Board) {m′ : Matrix} {a′ p′ s′ : List ℤ} (k′ : Ready columns room old b′ m′ a′ p′ s′) where
+  same-answers : b ≡ b′ → a′ ≡ answers
+  same-answers e = k′ .answered ∙ sym (ap (λ (t : Board). written (t .tiles) old) e) ∙ sym (k .answered)
+
+  more-answers : (h : Choice) → laidOn i h b ≡ b′ → a′ ≡ sets answers (5 * i) (numbers (tileOf i h))
+  more-answers h e =
+      k′ .answered ∙ sym (ap (λ (t : Board). written (t .tiles) old) e) ∙ written-laid i h b old ∙ ap (λ (l : List ℤ). sets l (5 * i) (numbers (tileOf i h))) (sym (k .answered))
+
   -- an item that is passed over
   stayed : mine2 (primaryOf columns items i) (secondaryOf columns items i) ≡ false → b ≡ b′ → Recorded columns items a′ b′ (i + 1)
   stayed mine e c =
-      let same : a′ ≡ answers = k′ .answered ∙ sym (ap (λ (t : Board). written (t .tiles) old) e) ∙ sym (k .answered) in
       let no : counted columns items a′ c i ≡ false = rw mine in
-      sym (ap (λ (t : Board). endsOn (axisOf columns) c (t .tiles)) e) ∙ rec c ∙ sym (ends-pass columns items a′ c i no ∙ ap (λ (l : List ℤ). endsBefore columns items l c i) same)
+      sym (ap (λ (t : Board). endsOn (axisOf columns) c (t .tiles)) e) ∙ rec c ∙ sym (ends-pass columns items a′ c i no ∙ ap (λ (l : List ℤ). endsBefore columns items l c i) (same-answers e))
 
   -- and one that is laid
   laid-on : (h : Choice) → h .step ≡ 2 → mine2 (primaryOf columns items i) (secondaryOf columns items i) ≡ true → laidOn i h b ≡ b′ → Recorded columns items a′ b′ (i + 1)
   unfolding laidOn tileOf
   laid-on h st mine e c =
-      let now : a′ ≡ sets answers (5 * i) (numbers (tileOf i h)) =
-      k′ .answered ∙ sym (ap (λ (t : Board). written (t .tiles) old) e) ∙ written-laid i h b old ∙ ap (λ (l : List ℤ). sets l (5 * i) (numbers (tileOf i h))) (sym (k .answered)) in
       sym (ap (λ (t : Board). endsOn (axisOf columns) c (t .tiles)) e) ∙ tile-next columns items answers (b .tiles) (tileOf i h) i st mine long rec c
-      ∙ sym (ap (λ (l : List ℤ). endsBefore columns items l c (i + 1)) now)
+      ∙ sym (ap (λ (l : List ℤ). endsBefore columns items l c (i + 1)) (more-answers h e))
 
   pub recorded-next : step2 (settingFor columns dense room) i (primaryOf columns items i) (secondaryOf columns items i) b ≡ going b′ → Recorded columns items a′ b′ (i + 1)
   unfolding step2 choose2
@@ -216,6 +233,40 @@ module _ (dense : Bool) {columns : Bool} {room : Both ℕ} {old : List ℤ} {b :
       go (Fixed p) (Spanned n) f g h = stayed (rw f) (stay h)
       go (Spanned n) (Fixed s) f g h = let w = settingFor columns dense room in laid-on (choose2 w n s b) refl (rw (f, g)) (put-going w i (choose2 w n s b) b b′ h)
       go (Spanned n) (Spanned l) f g h = stayed (rw (f, g)) (stay h)
+
+  -- the sparse flow's ends: of an item that is passed over none
+  onward-stayed : Onward columns items answers i → mine2 (primaryOf columns items i) (secondaryOf columns items i) ≡ false → b ≡ b′ → Onward columns items a′ (i + 1)
+  onward-stayed on mine e =
+      subst (λ (l : List ℤ). Onward columns items l (i + 1)) (sym (same-answers e))
+      (onward-more columns items answers i on (λ c f g. clash f (let no : counted columns items answers c i ≡ false = rw mine in no)))
+
+  -- and of one that is laid
+  last-laid : (n : ℕ) (s : Lines) → dense ≡ false → secondaryOf columns items i ≡ Fixed s → EndsLast columns items (sets answers (5 * i) (numbers (tileOf i (choose2 (settingFor columns dense room) n s b)))) i
+  unfolding choose2 tileOf
+  last-laid n s d g c e f =
+      let w = settingFor columns dense room in
+      let t = tileOf i (choose2 w n s b) in
+      let p = from (firstLine (freeAt w b n s) (start2 w (s .start) b)) n in
+      let here : s .start ≡ c = eq-of (s .start) c (rw g at f) in
+      let end : recordedEnd columns (sets answers (5 * i) (numbers t)) i ≡ limited p .end = end-at columns answers i t long ∙ limited-end (axisOf columns) p s in
+      let ends = ends-same columns items answers (numbers t) c (5 * i) i (omega arith) ∙ sym (rec c) in
+      rw (end, ends, ← here) (ends-onward w n s b d (k .kept))
+
+  onward-laid : (n : ℕ) (s : Lines) → dense ≡ false → Onward columns items answers i → secondaryOf columns items i ≡ Fixed s → laidOn i (choose2 (settingFor columns dense room) n s b) b ≡ b′ → Onward columns items a′ (i + 1)
+  onward-laid n s d on g e =
+      let h = choose2 (settingFor columns dense room) n s b in
+      subst (λ (l : List ℤ). Onward columns items l (i + 1)) (sym (more-answers h e))
+      (onward-more columns items (sets answers (5 * i) (numbers (tileOf i h))) i (λ j l. ends-last-same columns items answers (numbers (tileOf i h)) (5 * i) j (omega arith) (on j l)) (last-laid n s d g))
+
+  pub onward-next : dense ≡ false → Onward columns items answers i → step2 (settingFor columns dense room) i (primaryOf columns items i) (secondaryOf columns items i) b ≡ going b′ → Onward columns items a′ (i + 1)
+  unfolding step2
+  onward-next d on e = go (primaryOf columns items i) (secondaryOf columns items i) refl refl e
+    where
+      go : (P S : Placement) → primaryOf columns items i ≡ P → secondaryOf columns items i ≡ S → step2 (settingFor columns dense room) i P S b ≡ going b′ → Onward columns items a′ (i + 1)
+      go (Fixed p) (Fixed s) f g h = onward-stayed on (rw f) (stay h)
+      go (Fixed p) (Spanned n) f g h = onward-stayed on (rw f) (stay h)
+      go (Spanned n) (Fixed s) f g h = let w = settingFor columns dense room in onward-laid n s d on g (put-going w i (choose2 w n s b) b b′ h)
+      go (Spanned n) (Spanned l) f g h = onward-stayed on (rw (f, g)) (stay h)
 
 -- ---- before the step
 
@@ -241,6 +292,7 @@ pub record Going (columns dense : Bool) (items : List ℤ) (i : ℕ) (room : Bot
   pub board : Board
   pub ready : Ready columns room old board m answers primary secondary
   pub recorded : Recorded columns items answers board i
+  pub onward : dense ≡ false → Onward columns items answers i
   -- the rest of the step from here is the whole of it
   pub rest : each (settingFor columns dense room) (step2 (settingFor columns dense room)) (queued items) b ≡ each (settingFor columns dense room) (step2 (settingFor columns dense room)) (drop i (queued items)) board
 
@@ -256,11 +308,14 @@ Placed columns dense items i m a p s r a′ p′ s′ =
 module _ {columns dense : Bool} {items : List ℤ} {m₀ : Matrix} {a₀ p₀ s₀ : List ℤ} where
   pub turn-first : Turn columns dense items 0 m₀ a₀ p₀ s₀ m₀ a₀ p₀ s₀
   unfolding endsBefore
-  turn-first room old b k n = record { board = b; ready = k; recorded = n; rest = refl }
+  turn-first room old b k n = record { board = b; ready = k; recorded = n; onward = λ d j h. absurd (let z : ⊥ = omega arith in z); rest = refl }
 
   module _ {i : ℕ} {m : Matrix} {a p s : List ℤ} (t : Turn columns dense items i m₀ a₀ p₀ s₀ m a p s) where
     pub turn-stands : (room : Both ℕ) (old : List ℤ) (b : Board) → Ready columns room old b m₀ a₀ p₀ s₀ → NoEnds columns b → StandsAt columns items i m a p s
     turn-stands room old b k n = let g = t room old b k n in (room, (old, (g .board, (g .ready, g .recorded))))
+
+    pub turn-onward : (room : Both ℕ) (old : List ℤ) (b : Board) → Ready columns room old b m₀ a₀ p₀ s₀ → NoEnds columns b → dense ≡ false → Onward columns items a i
+    turn-onward room old b k n = t room old b k n .onward
 
     module _ (inside-queue : i < length items / 6) (long : 5 * i + 5 ≤ length a) where
       here : drop i (queued items) ≡ record { index = i; item = itemOf (itemAt items i) } ∷ drop (i + 1) (queued items)
@@ -288,6 +343,7 @@ module _ {columns dense : Bool} {items : List ℤ} {m₀ : Matrix} {a₀ p₀ s�
                 board = b′;
                 ready = subst (λ (y : Matrix). Ready columns room old b′ y a′ p′ s′) same k′;
                 recorded = recorded-next dense (g .ready) items i long (g .recorded) b′ k′ e;
+                onward = λ d. onward-next dense (g .ready) items i long (g .recorded) b′ k′ d (g .onward d) e;
                 rest = g .rest ∙ ap (λ (qs : List Queued). each w (step2 w) qs (g .board)) here ∙ each-next w (step2 w) (record { index = i; item = itemOf (itemAt items i) }) (drop (i + 1) (queued items)) (g .board) b′ e;
               }
           go (stopped n₁ j) e (h, z) = absurd (let o₁ : _≡_ {A = ℕ} 0 1 = cc in omega arith)

@@ -3,13 +3,15 @@
 use mathlib.Core.Path.{_≡_}
 use mathlib.Core.Bool.{Bool, true, false, cond, _&&_}
 use mathlib.Core.List.{List, [], _∷_}
-use Prim.Native.Nat.{ℕ, zero, suc, _+_, _*_}
+use Prim.Native.Nat.{ℕ, zero, suc, _+_, _*_, _<_}
 use lib.IntN.{ℤ, pos}
 use lib.ListN.{getD}
 use Rattle.signed.specs.Parts.{eqZ}
 use Rattle.grid_track_counts.specs.Counts.{gridStart}
+use Rattle.walk.specs.declared.Placement.{Placement}
+use Rattle.walk.specs.declared.Placement.the-variants.{Fixed, Spanned}
 use Rattle.walk.specs.Axis.{Axis, Both}
-use Rattle.walk.specs.Walk.{Board, endsOn, largestOr}
+use Rattle.walk.specs.Walk.{Board, endsOn, largest, largestOr}
 use Rattle.walk.specs.Rules.{mine2}
 use Rattle.request.specs.Items.{axisOf}
 use Rattle.placement.specs.declared.Matrix.{Matrix}
@@ -44,6 +46,21 @@ endsBefore columns items answers c zero = []
 endsBefore columns items answers c (suc j) =
     let rest = endsBefore columns items answers c j in
     cond (counted columns items answers c j) (recordedEnd columns answers j ∷ rest) rest
+
+-- the item's own secondary start is c, before limiting
+abbrev pub startsAt : Placement → ℤ → Bool
+startsAt (Fixed s) c = eqZ (s .start) c
+startsAt (Spanned n) c = false
+
+-- where item j starts itself it ends no earlier than any that counts there before it
+abbrev pub EndsLast : Bool → List ℤ → List ℤ → ℕ → Type 0
+EndsLast columns items answers j =
+    (c : ℤ) → counted columns items answers c j ≡ true → startsAt (secondaryOf columns items j) c ≡ true
+    → largest (recordedEnd columns answers j) (endsBefore columns items answers c j) ≡ recordedEnd columns answers j
+
+-- so do all before item i in the sparse flow, whose searches start "at the largest recorded primary end". Not where an item is only pressed: its search started without those there
+abbrev pub Onward : Bool → List ℤ → List ℤ → ℕ → Type 0
+Onward columns items answers i = (j : ℕ) → j < i → EndsLast columns items answers j
 
 -- the answers record what the board's tiles do
 abbrev pub Recorded : Bool → List ℤ → List ℤ → Board → ℕ → Type 0

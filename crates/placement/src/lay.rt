@@ -3,7 +3,6 @@ ghost use mathlib.Core.Path.{_≡_};
 ghost use mathlib.Core.Bool.{cond, _||_};
 ghost use mathlib.Core.List.{[], _∷_};
 ghost use Prim.Native.Nat.{_+_, _*_, _≤_, _<_, _%_};
-ghost use lib.Dec.{ltb};
 ghost use lib.IntN.{ℤ, pos};
 ghost use lib.Signed.{_≤ℤ_};
 ghost use lib.ListN.{length};
@@ -16,11 +15,10 @@ ghost use Rattle.grid_track_counts.specs.Counts.{Sound};
 ghost use Rattle.walk.specs.Axis.{laid};
 ghost use Rattle.walk.specs.Walk.{bit};
 ghost use Rattle.request.specs.Items.{axisOf};
-ghost use Rattle.placement.specs.Laying.{Laying, answerFive, refusalOf};
+ghost use Rattle.placement.specs.Laying.{Laying, answerFive, refusalOf, shortOf};
 use crate::Laid;
 use crate::Matrix;
-use cell_painting::count_painted;
-use cell_painting::repaint;
+use cell_painting::paint_fitting;
 use coordinates::Lines;
 
 // The mark: the step's flags, and bit 1 where limiting changed a line.
@@ -34,13 +32,6 @@ fn mark_of(flags: u16, p_pressed: bool, s_pressed: bool) -> u16
         }
     }
     flags | 1
-}
-
-// Whether a list of so many numbers has too few places. The division keeps within a usize, which four times the records need not.
-fn is_short(numbers: usize, records: usize) -> bool
-    ensures { λ r. ⌜ r ≡ ltb numbers (4 * records) ⌝ }
-{
-    numbers / 4 < records
 }
 
 // The number of the list that is too short, or 0. The row list's comes first where both are.
@@ -97,34 +88,34 @@ fn put_answer(answers: &mut [i16], i: usize, columns: bool, p: Lines, s: Lines, 
     put_five(answers, at, s_start, s_end, p_start, p_end, mark);
 }
 
-// How many records a list has once a tile is painted on it: its lines along the list's tracks, and those across them.
-fn records_with(list: &[i16], used: usize, tracks: Lines, lines: Lines, state: i16) -> usize
+// Whether a list has too few places for a tile: its lines along the list's tracks, and those across them.
+fn is_short(list: &[i16], used: usize, tracks: Lines, lines: Lines, state: i16) -> bool
     requires { ⌜ Holds (now list) used ⌝ }
     requires { ⌜ Limited tracks × Limited lines ⌝ }
     requires { ⌜ (pos 1 ≤ℤ state) × (state ≤ℤ pos 2) ⌝ }
-    ensures { λ r. ⌜ r ≡ length (paintList (areaOf (tracks .start) (tracks .end) (lines .start) (lines .end) state) (recs used (now (list .entry)))) ⌝ }
+    ensures { λ r. ⌜ r ≡ shortOf (length (now (list .entry))) (paintList (areaOf (tracks .start) (tracks .end) (lines .start) (lines .end) state) (recs used (now (list .entry)))) ⌝ }
 {
     let track_start = tracks.start;
     let track_end = tracks.end;
     let start = lines.start;
     let end = lines.end;
-    count_painted(list, used, track_start, track_end, start, end, state)
+    cell_painting::is_short(list, used, track_start, track_end, start, end, state)
 }
 
-// Paints a tile on a list that has the places for the `total` records that there are afterwards.
-fn paint_tile(list: &mut [i16], used: usize, tracks: Lines, lines: Lines, state: i16, total: usize)
+// Paints a tile on a list that has the places for it. How many records there are afterwards.
+fn paint_tile(list: &mut [i16], used: usize, tracks: Lines, lines: Lines, state: i16) -> usize
     requires { ⌜ Holds (now list) used ⌝ }
     requires { ⌜ Limited tracks × Limited lines ⌝ }
     requires { ⌜ (pos 1 ≤ℤ state) × (state ≤ℤ pos 2) ⌝ }
-    requires { ⌜ total ≡ length (paintList (areaOf (tracks .start) (tracks .end) (lines .start) (lines .end) state) (recs used (now list))) ⌝ }
-    requires { ⌜ 4 * total ≤ length (now list) ⌝ }
+    requires { ⌜ 4 * length (paintList (areaOf (tracks .start) (tracks .end) (lines .start) (lines .end) state) (recs used (now list))) ≤ length (now list) ⌝ }
+    ensures { λ r. ⌜ r ≡ length (paintList (areaOf (tracks .start) (tracks .end) (lines .start) (lines .end) state) (recs used (now (list .entry)))) ⌝ }
     ensures { λ _. ⌜ now (list .exit) ≡ flat (length (now (list .entry))) (paintList (areaOf (tracks .start) (tracks .end) (lines .start) (lines .end) state) (recs used (now (list .entry)))) ⌝ }
 {
     let track_start = tracks.start;
     let track_end = tracks.end;
     let start = lines.start;
     let end = lines.end;
-    let _ = repaint(list, used, track_start, track_end, start, end, state, total);
+    paint_fitting(list, used, track_start, track_end, start, end, state)
 }
 
 // Lays a tile of these primary and secondary lines, or gives the number of the list that has too few places and changes nothing.
@@ -155,16 +146,14 @@ pub fn lay(
     let p_used = matrix.primary_used;
     let s_used = matrix.secondary_used;
     // Room is judged before either list is changed.
-    let on_primary = records_with(primary, p_used, p_lines, s_lines, state);
-    let on_secondary = records_with(secondary, s_used, s_lines, p_lines, state);
-    let primary_short = is_short(primary.len(), on_primary);
-    let secondary_short = is_short(secondary.len(), on_secondary);
+    let primary_short = is_short(primary, p_used, p_lines, s_lines, state);
+    let secondary_short = is_short(secondary, s_used, s_lines, p_lines, state);
     let refusal = refusal_of(columns, primary_short, secondary_short);
     if refusal != 0 {
         return Laid::Short(refusal);
     }
-    paint_tile(primary, p_used, p_lines, s_lines, state, on_primary);
-    paint_tile(secondary, s_used, s_lines, p_lines, state, on_secondary);
+    let on_primary = paint_tile(primary, p_used, p_lines, s_lines, state);
+    let on_secondary = paint_tile(secondary, s_used, s_lines, p_lines, state);
     put_answer(answers, i, columns, p_lines, s_lines, mark);
     let p_counts = matrix.primary;
     let s_counts = matrix.secondary;

@@ -1,6 +1,6 @@
 // Step 2: items fixed in the secondary axis only take the first free primary line.
 ghost use mathlib.Core.Path.{_≡_};
-ghost use mathlib.Core.Bool.{cond};
+ghost use mathlib.Core.Bool.{cond, false};
 ghost use mathlib.Core.List.{List};
 ghost use Prim.Native.Nat.{ℕ, _+_, _*_, _/_, _≤_};
 ghost use lib.IntN.{ℤ, pos};
@@ -18,7 +18,7 @@ ghost use Rattle.walk.specs.Search.{firstLine};
 ghost use Rattle.walk.specs.Walk.{Board, larger, largestOr, step2, each};
 ghost use Rattle.request.proofs.Items.{queued};
 ghost use Rattle.placement.specs.Ready.{settingFor, Ready, AfterItem, AfterStep, Items, primaryOf, secondaryOf};
-ghost use Rattle.placement.specs.Ends.{recordedEnd, recordedStart, counted, endsBefore, startOf, Recorded, NoEnds, StandsAt, StandsFresh};
+ghost use Rattle.placement.specs.Ends.{recordedEnd, recordedStart, counted, startsAt, endsBefore, Onward, startOf, Recorded, NoEnds, StandsAt, StandsFresh};
 use crate::Laid;
 use crate::Matrix;
 use crate::Stepped;
@@ -83,7 +83,22 @@ fn end_counts(columns: bool, items: &[i16], answers: &[i16], start: i16, j: usiz
     false
 }
 
-// The end `end` beside the largest of those before it, if there was one.
+// Whether item j starts at the secondary line `start` itself, and isn't only pressed onto it by limiting.
+fn starts_at(columns: bool, items: &[i16], start: i16, j: usize) -> bool
+    requires { ⌜ Items (now items) (j + 1) ⌝ }
+    ensures { λ r. ⌜ r ≡ startsAt (secondaryOf columns (now (items .entry)) j) start ⌝ }
+{
+    let Placement::Fixed(s) = placement_on(items, j, !columns) else {
+        return false;
+    };
+    let own = s.start;
+    if own == start {
+        return true;
+    }
+    false
+}
+
+// The end `end` beside the largest of those looked at before it, if there was one.
 fn further(found: bool, best: i16, end: i16) -> i16
     ensures { λ r. ⌜ SFits w16 r ⌝ }
     ensures { λ r. ⌜ r ≡ cond found (larger end best) end ⌝ }
@@ -96,7 +111,9 @@ fn further(found: bool, best: i16, end: i16) -> i16
     end
 }
 
-// The largest primary end of this step's items before item i that start at the secondary line `start`, or `none`.
+// The largest primary end of this step's items before item i that start at the secondary line `start`, or `none`. From the newest back: an
+// item that starts there itself was searched from the largest end before it on, so nothing older ends later. One that is pressed onto the
+// line was searched from elsewhere, so it may end earlier than an older one.
 fn furthest_end(
     columns: bool,
     items: &[i16],
@@ -107,20 +124,23 @@ fn furthest_end(
 ) -> i16
     requires { ⌜ Items (now items) i ⌝ }
     requires { ⌜ 5 * i ≤ length (now answers) ⌝ }
+    requires { ⌜ Onward columns (now items) (now answers) i ⌝ }
     ensures { λ r. ⌜ SFits w16 r ⌝ }
     ensures { λ r. ⌜ r ≡ largestOr none (endsBefore columns (now (items .entry)) (now (answers .entry)) start i) ⌝ }
 {
     let mut best = none;
     let mut found = false;
-    let mut j: usize = 0;
-    while j < i {
-        let at = j;
-        j += 1;
-        if !end_counts(columns, items, answers, start, at) {
+    let mut j = i;
+    while 0 < j {
+        j -= 1;
+        if !end_counts(columns, items, answers, start, j) {
             continue;
         }
-        best = further(found, best, recorded_end(columns, answers, at));
+        best = further(found, best, recorded_end(columns, answers, j));
         found = true;
+        if starts_at(columns, items, start, j) {
+            return best;
+        }
     }
     best
 }
@@ -137,6 +157,7 @@ fn starting_line(
 ) -> i16
     requires { ⌜ Items (now items) i ⌝ }
     requires { ⌜ 5 * i ≤ length (now answers) ⌝ }
+    requires { ⌜ (dense ≡ false → Onward columns (now items) (now answers) i) ⌝ }
     ensures { λ r. ⌜ SFits w16 r ⌝ }
     ensures { λ r. ⌜ r ≡ startOf columns dense (now (items .entry)) (now (answers .entry)) start i «grid_start» ⌝ }
 {
@@ -160,6 +181,7 @@ fn primary_lines(
 ) -> Lines
     requires { ⌜ Items (now items) i ⌝ }
     requires { ⌜ 5 * i ≤ length (now answers) ⌝ }
+    requires { ⌜ (dense ≡ false → Onward columns (now items) (now answers) i) ⌝ }
     requires { ⌜ s .start <ℤ s .end ⌝ }
     requires { ⌜ (1 ≤ span) × (span ≤ 10000) ⌝ }
     requires { ⌜ Sound (matrix .primary) × Holds (now secondary) (matrix .«secondary_used») ⌝ }
@@ -190,6 +212,7 @@ fn place_definite_secondary_axis_item(
     requires { ⌜ Items (now items) (i + 1) ⌝ }
     requires { ⌜ 5 * i + 5 ≤ length (now answers) ⌝ }
     requires { ⌜ StandsAt columns (now items) i matrix (now answers) (now primary) (now secondary) ⌝ }
+    requires { ⌜ (dense ≡ false → Onward columns (now items) (now answers) i) ⌝ }
     ensures { λ r. ⌜ ((room : Both ℕ) (old : List ℤ) (b : Board) → Ready columns room old b matrix (now (answers .entry)) (now (primary .entry)) (now (secondary .entry)) → Recorded columns (now (items .entry)) (now (answers .entry)) b i → AfterItem columns room old i (step2 (settingFor columns dense room) i (primaryOf columns (now (items .entry)) i) (secondaryOf columns (now (items .entry)) i) b) r (now (answers .exit)) (now (primary .exit)) (now (secondary .exit))) ⌝ }
 {
     let Placement::Fixed(s) = placement_on(items, i, !columns) else {

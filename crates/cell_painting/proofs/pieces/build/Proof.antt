@@ -25,7 +25,7 @@ returns c =
     let f = s .fits in (
       omega arith,
       refl,
-      b3 _ _ _ _ _ _ _ _ (f .t) (f .c) (f .v) (f .d) (f .z) (f .a) (f .b) (f .s) _ _ (l .before .before .start-of .ok) (l .before .end-of .ok) (l .before .before .start-of .ensures) (l .before .end-of .ensures)
+      b3 _ _ _ _ _ _ _ (f .c) (f .v) (f .d) (f .z) (f .a) (f .b) (f .s) _ _ (l .before .before .start-of .ok) (l .before .end-of .ok) (l .before .before .start-of .ensures) (l .before .end-of .ensures) _ (f .t)
           (sym (c .before .before .if1 .taken) ∙ l .left-of .ensures) (sym (c .if2 .taken) ∙ c .before .right-of .ensures),
     )
 
@@ -36,7 +36,7 @@ returns-2 c =
     let f = s .fits in (
       omega arith,
       refl,
-      b2l _ _ _ _ _ _ _ _ (f .t) (f .c) (f .v) (f .d) (f .z) (f .a) (f .b) (f .s) _ _ (l .before .before .start-of .ok) (l .before .end-of .ok) (l .before .before .start-of .ensures) (l .before .end-of .ensures)
+      b2l _ _ _ _ _ _ _ (f .c) (f .v) (f .d) (f .z) (f .a) (f .b) (f .s) _ _ (l .before .before .start-of .ok) (l .before .end-of .ok) (l .before .before .start-of .ensures) (l .before .end-of .ensures) _ (f .t)
           (sym (c .before .before .if1 .taken) ∙ l .left-of .ensures) (sym (c .if2 .left) ∙ c .before .right-of .ensures),
     )
 
@@ -50,7 +50,7 @@ returns-3 c =
     let f = s .fits in (
       omega arith,
       refl,
-      b2r _ _ _ _ _ _ _ _ (f .t) (f .c) (f .v) (f .d) (f .z) (f .a) (f .b) (f .s) _ _ (l .before .before .start-of .ok) (l .before .end-of .ok) (l .before .before .start-of .ensures) (l .before .end-of .ensures)
+      b2r _ _ _ _ _ _ _ (f .c) (f .v) (f .d) (f .z) (f .a) (f .b) (f .s) _ _ (l .before .before .start-of .ok) (l .before .end-of .ok) (l .before .before .start-of .ensures) (l .before .end-of .ensures) _ (f .t)
           (sym (c .before .before .if1 .left) ∙ l .left-of .ensures) (sym (c .if3 .taken) ∙ c .before .right-of2 .ensures),
     )
 
@@ -61,7 +61,7 @@ returns-4 c =
     let f = s .fits in (
       omega arith,
       refl,
-      b1 _ _ _ _ _ _ _ _ (f .t) (f .c) (f .v) (f .d) (f .z) (f .a) (f .b) (f .s) _ _ (l .before .before .start-of .ok) (l .before .end-of .ok) (l .before .before .start-of .ensures) (l .before .end-of .ensures)
+      b1 _ _ _ _ _ _ _ (f .c) (f .v) (f .d) (f .z) (f .a) (f .b) (f .s) _ _ (l .before .before .start-of .ok) (l .before .end-of .ok) (l .before .before .start-of .ensures) (l .before .end-of .ensures) _ (f .t)
           (sym (c .before .before .if1 .left) ∙ l .left-of .ensures) (sym (c .if3 .left) ∙ c .before .right-of2 .ensures),
     )
 

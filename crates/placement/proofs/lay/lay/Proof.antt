@@ -7,7 +7,6 @@ use mathlib.Core.Bool.{false, _||_}
 use mathlib.Core.List.{List}
 use Prim.Native.Nat.{ℕ, _+_, _*_, _≤_, _<_}
 use native.Mathlib.Omega.{arith}
-use lib.Dec.{ltb}
 use lib.IntN.{ℤ, pos}
 use lib.ListN.{length}
 use lib.Seq.{sets}
@@ -16,8 +15,9 @@ use mir.Syntax.{w16}
 use mir.Val.{toZ, ofZ}
 use mir.Facts.{toZ-ofZ}
 use Rattle.intervals.specs.Records.{Rec}
-use Rattle.intervals.specs.OverInt.{flat}
+use Rattle.intervals.specs.OverInt.{paintList, flat}
 use Rattle.intervals.specs.Lists.{recs}
+use Rattle.cell_painting.specs.Painting.{areaOf}
 use Rattle.coordinates.specs.declared.Lines.{Lines}
 use Rattle.coordinates.specs.Line.{limited, pressed, Limited}
 use Rattle.coordinates.proofs.Promises.{limited-meets}
@@ -73,32 +73,23 @@ module _ (c : tie.After-into-limited-grid2) where
   state-good : (pos 1 ≤ℤ toZ w16 (ofZ w16 (start .args .state))) × (toZ w16 (ofZ w16 (start .args .state)) ≤ℤ pos 2)
   state-good = rw (state-is) (start .pre .1 .1 .0)
 
-records-with-requires : tie.Need-records-with-requires
-records-with-requires c κs =
+is-short-requires : tie.Need-is-short-requires
+is-short-requires c κs =
     let g = c .before .before .before .before in
     (start g .pre .0 .0, ((p-limited g, s-limited g), state-good g))
 
-records-with-requires-2 : tie.Need-records-with-requires-2
-records-with-requires-2 c κs =
+is-short-requires-2 : tie.Need-is-short-requires-2
+is-short-requires-2 c κs =
     let g = c .before .before .before .before .before .before in
     (start g .pre .0 .1, ((s-limited g, p-limited g), state-good g))
-
-is-short-requires : tie.Need-is-short-requires
-is-short-requires c κs = search needs
-
-is-short-requires-2 : tie.Need-is-short-requires-2
-is-short-requires-2 c κs = search needs
 
 refusal-of-requires : tie.Need-refusal-of-requires
 refusal-of-requires c κs = search needs
 
--- once room is judged: how many records each list needs, and the refusal
+-- once room is judged: what each list needs, and the refusal
 module _ (c : tie.After-refusal-of) where
-  abbrev counted : tie.After-records-with2
-  counted = c .before .before .before
-
   abbrev marked : tie.After-mark-of
-  marked = counted .before .before .before .before
+  marked = c .before .before .before .before .before
 
   abbrev both : tie.After-into-limited-grid2
   both = marked .before .before .before
@@ -112,17 +103,24 @@ module _ (c : tie.After-refusal-of) where
   abbrev on-s : List (Rec ℤ)
   on-s = onSecondary (begun .args .columns) (begun .args .p) (begun .args .s) (begun .args .state) (begun .args .flags) (begun .args .matrix) (begun .args .i) (begun .args .answers .now) (begun .args .primary .now) (begun .args .secondary .now)
 
-  count-p : counted .before .before .records-with .result ≡ length on-p
-  count-p = counted .before .before .records-with .ensures ∙ ap length (same-paint (recs (begun .args .matrix .«primary_used») (begun .args .primary .now)) (p-is both) (s-is both) (state-is both))
+  -- as those say that are called: by the lines that limiting gave, and the state as read back
+  abbrev onto-p : List (Rec ℤ)
+  onto-p = paintList (areaOf (pl both .start) (pl both .end) (sl both .start) (sl both .end) (toZ w16 (ofZ w16 (begun .args .state)))) (recs (begun .args .matrix .«primary_used») (begun .args .primary .now))
 
-  count-s : counted .records-with2 .result ≡ length on-s
-  count-s = counted .records-with2 .ensures ∙ ap length (same-paint (recs (begun .args .matrix .«secondary_used») (begun .args .secondary .now)) (s-is both) (p-is both) (state-is both))
+  abbrev onto-s : List (Rec ℤ)
+  onto-s = paintList (areaOf (sl both .start) (sl both .end) (pl both .start) (pl both .end) (toZ w16 (ofZ w16 (begun .args .state)))) (recs (begun .args .matrix .«secondary_used») (begun .args .secondary .now))
 
-  short-p : c .before .before .is-short .result ≡ shortOf (length (begun .args .primary .now)) on-p
-  short-p = c .before .before .is-short .ensures ∙ ap (λ (n : ℕ). ltb (length (begun .args .primary .now)) (4 * n)) count-p
+  paint-p : onto-p ≡ on-p
+  paint-p = same-paint (recs (begun .args .matrix .«primary_used») (begun .args .primary .now)) (p-is both) (s-is both) (state-is both)
+
+  paint-s : onto-s ≡ on-s
+  paint-s = same-paint (recs (begun .args .matrix .«secondary_used») (begun .args .secondary .now)) (s-is both) (p-is both) (state-is both)
+
+  short-p : c .before .before .before .is-short .result ≡ shortOf (length (begun .args .primary .now)) on-p
+  short-p = c .before .before .before .is-short .ensures ∙ ap (shortOf (length (begun .args .primary .now))) paint-p
 
   short-s : c .before .is-short2 .result ≡ shortOf (length (begun .args .secondary .now)) on-s
-  short-s = c .before .is-short2 .ensures ∙ ap (λ (n : ℕ). ltb (length (begun .args .secondary .now)) (4 * n)) count-s
+  short-s = c .before .is-short2 .ensures ∙ ap (shortOf (length (begun .args .secondary .now))) paint-s
 
   refused : c .refusal-of .result ≡ refusal (begun .args .columns) (begun .args .p) (begun .args .s) (begun .args .state) (begun .args .flags) (begun .args .matrix) (begun .args .i) (begun .args .answers .now) (begun .args .primary .now) (begun .args .secondary .now)
   refused = c .refusal-of .ensures ∙ (λ j. refusalOf (begun .args .columns) (short-p j) (short-s j))
@@ -155,27 +153,26 @@ module _ (c : tie.Else1) where
   abbrev judged : tie.After-refusal-of
   judged = c .before
 
-  none : (judged .before .before .is-short .result ≡ false) × (judged .before .is-short2 .result ≡ false)
-  none = neither (begun judged .args .columns) (judged .before .before .is-short .result) (judged .before .is-short2 .result) (sym (judged .refusal-of .ensures) ∙ c .if1 .left)
+  none : (judged .before .before .before .is-short .result ≡ false) × (judged .before .is-short2 .result ≡ false)
+  none = neither (begun judged .args .columns) (judged .before .before .before .is-short .result) (judged .before .is-short2 .result) (sym (judged .refusal-of .ensures) ∙ c .if1 .left)
 
-  room-p : 4 * counted judged .before .before .records-with .result ≤ length (begun judged .args .primary .now)
-  room-p = ltb-false (length (begun judged .args .primary .now)) (4 * counted judged .before .before .records-with .result) (sym (judged .before .before .is-short .ensures) ∙ none .0)
+  room-p : 4 * length (onto-p judged) ≤ length (begun judged .args .primary .now)
+  room-p = ltb-false (length (begun judged .args .primary .now)) (4 * length (onto-p judged)) (sym (judged .before .before .before .is-short .ensures) ∙ none .0)
 
-  room-s : 4 * counted judged .records-with2 .result ≤ length (begun judged .args .secondary .now)
-  room-s = ltb-false (length (begun judged .args .secondary .now)) (4 * counted judged .records-with2 .result) (sym (judged .before .is-short2 .ensures) ∙ none .1)
+  room-s : 4 * length (onto-s judged) ≤ length (begun judged .args .secondary .now)
+  room-s = ltb-false (length (begun judged .args .secondary .now)) (4 * length (onto-s judged)) (sym (judged .before .is-short2 .ensures) ∙ none .1)
 
 paint-tile-requires : tie.Need-paint-tile-requires
 paint-tile-requires c κs =
-    let d = c .before .before in
-    let g = both d in
-    (start g .pre .0 .0, ((search (both-limited g), search (both-limited g)), (state-good g, (counted d .before .before .records-with .ensures, room-p (c .before)))))
+    let e = c .before in
+    let g = both (e .before) in
+    (start g .pre .0 .0, ((search (both-limited g), search (both-limited g)), (state-good g, room-p e)))
 
 paint-tile-requires-2 : tie.Need-paint-tile-requires-2
 paint-tile-requires-2 c κs =
     let e = c .before .before .before .before in
-    let d = e .before in
-    let g = both d in
-    (start g .pre .0 .1, ((search (both-limited g), search (both-limited g)), (state-good g, (counted d .records-with2 .ensures, room-s e))))
+    let g = both (e .before) in
+    (start g .pre .0 .1, ((search (both-limited g), search (both-limited g)), (state-good g, room-s e)))
 
 put-answer-requires : tie.Need-put-answer-requires
 put-answer-requires c κs =
@@ -236,18 +233,24 @@ module _ (c : tie.After-grown2) where
   written : answering .put-answer .last .0 ≡ sets (entry .args .answers .now) (5 * entry .args .i) (answerFive (laid (axisOf (entry .args .columns)) (limited (entry .args .p)) (limited (entry .args .s))) (markOf (entry .args .p) (entry .args .s) (entry .args .flags)))
   written = answering .put-answer .ensures ∙ (λ j. sets (entry .args .answers .now) (5 * entry .args .i) (answerFive (laid (axisOf (entry .args .columns)) (p-now j) (s-now j)) (mark-is found j)))
 
+  count-p : first .paint-tile .result ≡ length (on-p found)
+  count-p = first .paint-tile .ensures .0 ∙ ap length (paint-p found)
+
+  count-s : second .paint-tile2 .result ≡ length (on-s found)
+  count-s = second .paint-tile2 .ensures .0 ∙ ap length (paint-s found)
+
   p-painted : first .paint-tile .last .0 ≡ flat (length (entry .args .primary .now)) (on-p found)
-  p-painted = first .paint-tile .ensures ∙ ap (flat (length (entry .args .primary .now))) (same-paint (recs (entry .args .matrix .«primary_used») (entry .args .primary .now)) p-now s-now (state-is (both found)))
+  p-painted = first .paint-tile .ensures .1 ∙ ap (flat (length (entry .args .primary .now))) (paint-p found)
 
   s-painted : second .paint-tile2 .last .0 ≡ flat (length (entry .args .secondary .now)) (on-s found)
-  s-painted = second .paint-tile2 .ensures ∙ ap (flat (length (entry .args .secondary .now))) (same-paint (recs (entry .args .matrix .«secondary_used») (entry .args .secondary .now)) s-now p-now (state-is (both found)))
+  s-painted = second .paint-tile2 .ensures .1 ∙ ap (flat (length (entry .args .secondary .now))) (paint-s found)
 
 returns-2 : tie.Need-returns-2
 returns-2 c =
     inl (
     record {
       room = sym (refused (found c)) ∙ roomy c .if1 .left;
-      result = λ j. On (record { primary = p-grown c j; secondary = s-grown c j; «primary_used» = count-p (found c) j; «secondary_used» = count-s (found c) j });
+      result = λ j. On (record { primary = p-grown c j; secondary = s-grown c j; «primary_used» = count-p c j; «secondary_used» = count-s c j });
       answered = written c;
       onto-primary = p-painted c;
       onto-secondary = s-painted c;
@@ -261,8 +264,6 @@ lay-spec =
     into-limited-grid-requires
     into-limited-grid-requires-2
     mark-of-requires
-    records-with-requires
-    records-with-requires-2
     is-short-requires
     is-short-requires-2
     refusal-of-requires

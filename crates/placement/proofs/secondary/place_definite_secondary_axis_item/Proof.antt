@@ -96,17 +96,20 @@ primary-lines-requires : tie.Need-primary-lines-requires
 primary-lines-requires c κs =
     let v = c .before .before .before in
     let p = z v .pre in
-    let k = p .1 .1 .1 .1 .1 in (
+    let k = p .1 .1 .0 .1 .1 .1 in (
       record { long = omega (arith, p .0 .long); good = λ j h. p .0 .good j (omega arith) },
       (
         omega arith,
         (
-          lines-good v,
+          p .1 .1 .1,
           (
-            span-good v,
+            lines-good v,
             (
-              (sound-primary (k .0), secondary-holds (k .0)),
-              start-grid (z v .args .dense) (k .0) (z v .args .items .now) (z v .args .i) (k .1) (s v .start) .high,
+              span-good v,
+              (
+                (sound-primary (k .0), secondary-holds (k .0)),
+                start-grid (z v .args .dense) (k .0) (z v .args .items .now) (z v .args .i) (k .1) (s v .start) .high,
+              ),
             ),
           ),
         ),
@@ -116,7 +119,7 @@ primary-lines-requires c κs =
 lay-requires : tie.Need-lay-requires
 lay-requires c κs =
     let v = c .before .before .before .before .before .before .before in
-    let k = z v .pre .1 .1 .1 .1 .1 .0 in
+    let k = z v .pre .1 .1 .0 .1 .1 .1 .0 in
     ((primary-holds k, secondary-holds k), ((sound-primary k, sound-secondary k), ((omega signed, omega signed), ((refl, omega arith), omega arith))))
 
 same-length : tie.Need-same-length

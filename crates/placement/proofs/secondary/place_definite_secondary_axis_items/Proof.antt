@@ -5,7 +5,7 @@ use Prim.Native.Nat.{ℕ, _+_, _-_, _/_, _≤_}
 use native.Mathlib.Omega.{arith}
 use lib.ListN.{length}
 use Rattle.placement.proofs.Lays.{Lengths}
-use Rattle.placement.proofs.Step2.{Turn, turn-first, turn-stands, turn-next, turn-stop, turn-last}
+use Rattle.placement.proofs.Step2.{Turn, turn-first, turn-stands, turn-onward, turn-next, turn-stop, turn-last}
 use Rattle.placement.proofs.secondary.place_definite_secondary_axis_items.Statement.{statement}
 use Rattle.placement.proofs.secondary.place_definite_secondary_axis_items.Tie as tie
 
@@ -28,7 +28,7 @@ place-definite-secondary-axis-item-requires c κs =
     let lp = t .before .loop in
     let st = s .pre .1 .1 in
     let h = t .loop-test .taken in
-    (record { long = omega (arith, s .pre .0 .long); good = λ k b. s .pre .0 .good k (omega arith) }, (omega (arith, lp .inv .1 .0), turn-stands (lp .inv .1 .1) (st .0) (st .1 .0) (st .1 .1 .0) (st .1 .1 .1 .0) (st .1 .1 .1 .1)))
+    (record { long = omega (arith, s .pre .0 .long); good = λ k b. s .pre .0 .good k (omega arith) }, (omega (arith, lp .inv .1 .0), (turn-stands (lp .inv .1 .1) (st .0) (st .1 .0) (st .1 .1 .0) (st .1 .1 .1 .0) (st .1 .1 .1 .1), turn-onward (lp .inv .1 .1) (st .0) (st .1 .0) (st .1 .1 .0) (st .1 .1 .1 .0) (st .1 .1 .1 .1))))
 
 enum-known-laid : tie.Need-enum-known-laid Inv-loop μ-loop
 enum-known-laid c = search needs

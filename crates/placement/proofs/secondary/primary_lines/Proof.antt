@@ -21,7 +21,7 @@ use Rattle.placement.proofs.secondary.primary_lines.Statement.{statemen
 use Rattle.placement.proofs.secondary.primary_lines.Tie as tie
 
 implicit-start-line-requires : tie.Need-implicit-start-line-requires
-implicit-start-line-requires c κs = c .before .pre .1 .1 .1 .1 .0 .0
+implicit-start-line-requires c κs = c .before .pre .1 .1 .1 .1 .1 .0 .0
 
 starting-line-requires : tie.Need-starting-line-requires
 starting-line-requires c κs = search needs
@@ -47,7 +47,7 @@ module _ (c : tie.After-starting-line) where
       ((toZ-ofZ (fit16 (g .implicit-start-line .result .0) (t .before .struct-told .given .0 .1)) ∙ g .implicit-start-line .ensures) j))
 
   begin-high : begin ≤ℤ pos 10000
-  begin-high = z .pre .1 .1 .1 .1 .1
+  begin-high = z .pre .1 .1 .1 .1 .1 .1
 
   read : toZ w16 (ofZ w16 (c .starting-line .result)) ≡ begin
   read = toZ-ofZ (c .starting-line .ensures .0) ∙ begins
@@ -57,7 +57,7 @@ first-free-line-requires c κs =
     let p = z c .pre in
     let e = read c in
     let h = begin-high c in
-    (p .1 .1 .1 .1 .0 .1, (p .1 .1 .0, (p .1 .1 .1 .0 .0, (p .1 .1 .1 .0 .1, omega signed))))
+    (p .1 .1 .1 .1 .1 .0 .1, (p .1 .1 .1 .0, (p .1 .1 .1 .1 .0 .0, (p .1 .1 .1 .1 .0 .1, omega signed))))
 
 -- what it finds
 module _ (c : tie.After-first-free-line) where
@@ -75,7 +75,7 @@ module _ (c : tie.After-first-free-line) where
 
   high : line ≤ℤ pos 10000
   high =
-      line-high (z b .args .secondary .now) (z b .args .matrix .«secondary_used») (z b .pre .1 .1 .1 .1 .0 .1) (z b .args .span) (z b .args .s) (begin b)
+      line-high (z b .args .secondary .now) (z b .args .matrix .«secondary_used») (z b .pre .1 .1 .1 .1 .1 .0 .1) (z b .args .span) (z b .args .s) (begin b)
       (begin-high b)
 
 cast-n : tie.Need-cast-n
@@ -86,7 +86,7 @@ add-end c =
     let f = fits c in
     let e = found c in
     let h = high c in
-    let n = z (b c) .pre .1 .1 .1 .0 .1 in
+    let n = z (b c) .pre .1 .1 .1 .1 .0 .1 in
     omega (signed, cast-n c, rng f)
 
 returns : tie.Need-returns

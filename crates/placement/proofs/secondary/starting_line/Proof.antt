@@ -1,5 +1,4 @@
 -- `starting_line`: each return is the definition with the test on the way. Assumes nothing.
-use borrow.Author.Needs.{needs}
 use mir.Facts.{toZ-ofZ}
 use Rattle.placement.proofs.secondary.starting_line.Statement.{statement}
 use Rattle.placement.proofs.secondary.starting_line.Tie as tie
@@ -11,7 +10,7 @@ returns c =
     (rw (toZ-ofZ f) f, rw (toZ-ofZ f, c .if1 .taken))
 
 furthest-end-requires : tie.Need-furthest-end-requires
-furthest-end-requires c κs = search needs
+furthest-end-requires c κs = let p = c .before .pre in (p .0, (p .1 .0, p .1 .1 (c .if1 .left)))
 
 returns-2 : tie.Need-returns-2
 returns-2 c =
