@@ -10,6 +10,8 @@ mod lists;
 mod placement;
 mod random;
 mod replay;
+#[allow(dead_code)]
+mod requests;
 mod sides;
 mod tally;
 

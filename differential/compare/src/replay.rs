@@ -1,8 +1,8 @@
 //! Requests with what the original gave for them, as numbers of 16 bits, the high byte first: how many requests there
 //! are, then for each its flow, six counts (columns first), the number of items, the items, four lines an item and the
 //! six counts afterwards.
-use crate::placement::{many, of_each_shape, Request};
 use crate::random::Random;
+use crate::requests::{many, of_each_shape, Request};
 use original::Axis;
 use std::path::Path;
 

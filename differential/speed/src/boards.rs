@@ -5,8 +5,17 @@ pub struct Board {
     pub name: String,
     pub counts: [[u16; 3]; 2],
     pub items: Vec<i16>,
-    /// The records of each lent list; none: the smallest power of two that is enough.
-    pub places: Option<usize>,
+    pub places: Places,
+}
+
+/// The records of each lent list.
+#[derive(Clone, Copy)]
+pub enum Places {
+    /// Twice the smallest power of two that is enough, at least 64, and at most what a list may have.
+    Sensible,
+    /// The smallest power of two that is enough.
+    Least,
+    Just(usize),
 }
 
 fn fixed(start: i32, length: i32) -> [i16; 3] {
@@ -19,7 +28,7 @@ fn spanned(length: i32) -> [i16; 3] {
 
 fn board(name: &str, columns: u16, rows: u16, items: Vec<[[i16; 3]; 2]>) -> Board {
     let counts = [[0, columns, 0], [0, rows, 0]];
-    Board { name: name.to_string(), counts, items: items.concat().concat(), places: None }
+    Board { name: name.to_string(), counts, items: items.concat().concat(), places: Places::Sensible }
 }
 
 fn empty() -> Board {
@@ -33,7 +42,12 @@ fn ward(random: &mut Random) -> Board {
 
 /// The same with lists as long as a program lends that does not know its boards: the clearing shows.
 fn ward_long(random: &mut Random) -> Board {
-    Board { name: "ward, lists of 8192 records".to_string(), places: Some(8192), ..ward(random) }
+    Board { name: "ward, lists of 8192 records".to_string(), places: Places::Just(8192), ..ward(random) }
+}
+
+/// The same with lists that are just long enough: room has to be counted tile by tile.
+fn ward_tight(random: &mut Random) -> Board {
+    Board { name: "ward, lists just long enough".to_string(), places: Places::Least, ..ward(random) }
 }
 
 /// Spans up to 4 by 3; every 16th tile is fixed somewhere on the part of the board that the others fill.
@@ -76,6 +90,7 @@ pub fn boards(seed: u64) -> Vec<Board> {
     vec![
         empty(),
         ward(&mut random()),
+        ward_tight(&mut random()),
         ward_long(&mut random()),
         hall(&mut random(), 2000),
         rails(&mut random()),

@@ -1,6 +1,9 @@
 //! One placement on each side. The functions are not inlined, so that a profile can count one of them alone.
-use crate::boards::Board;
+use crate::boards::{Board, Places};
 use std::hint::black_box;
+
+/// No list may have more.
+const MOST_RECORDS: usize = 262144;
 
 /// What our side lends: answers, row list, column list.
 pub struct Lent {
@@ -15,9 +18,21 @@ impl Lent {
         Lent { answers: vec![0; board.items.len() / 6 * 5], rows: vec![0; 4 * rows], columns: vec![0; 4 * columns] }
     }
 
-    /// Lists of the board's own length, or of the smallest power of two of records that is enough.
+    /// Lists as long as the board says.
     pub fn new(board: &Board, flow: u8) -> Self {
-        let mut places = [board.places.unwrap_or(1); 2];
+        match board.places {
+            Places::Just(records) => Self::with(board, [records; 2]),
+            Places::Least => Self::least(board, flow),
+            Places::Sensible => {
+                let least = Self::least(board, flow).records();
+                Self::with(board, least.map(|records| (2 * records).clamp(64, MOST_RECORDS)))
+            }
+        }
+    }
+
+    /// Lists of the smallest power of two of records that is enough.
+    fn least(board: &Board, flow: u8) -> Self {
+        let mut places = [1; 2];
         loop {
             let mut lent = Self::with(board, places);
             match placed(flow, board, &mut lent) {

@@ -4,9 +4,15 @@
 //!
 //! Each execution has a random sequence of its own, so --only N runs execution N of the seed alone. A crash ends the
 //! program; an execution that takes ten seconds counts as a hang and ends it too.
+#[path = "../executions.rs"]
+mod executions;
+#[path = "../extremes.rs"]
+mod extremes;
 #[path = "../random.rs"]
 mod random;
 
+use executions::{random_of, Words};
+use extremes::{any, any_count, any_counts, any_flow, items};
 use random::Random;
 use std::process::ExitCode;
 use std::sync::atomic::{AtomicU64, Ordering::Relaxed};
@@ -25,31 +31,6 @@ const CALLS: [&str; 8] = [
 
 /// The executions begun, which the watch looks at.
 static BEGUN: AtomicU64 = AtomicU64::new(0);
-
-const EXTREMES: [i16; 24] = [
-    -32768, -32767, -22001, -20001, -20000, -10001, -10000, -9999, -256, -2, -1, 0, 1, 2, 3, 127, 255, 9999, 10000,
-    10001, 20000, 20001, 32766, 32767,
-];
-
-fn any(random: &mut Random) -> i16 {
-    match random.below(4) {
-        0 => random.next() as i16,
-        1 => random.pick(&EXTREMES),
-        _ => random.within(-4, 8) as i16,
-    }
-}
-
-fn any_count(random: &mut Random) -> u16 {
-    match random.below(100) {
-        0 => random.next() as u16,
-        1..=2 => random.pick(&[9999, 10000, 10001, 32767, 32768, 65535]),
-        _ => random.below(5) as u16,
-    }
-}
-
-fn any_counts(random: &mut Random) -> [u16; 3] {
-    [0; 3].map(|_| any_count(random))
-}
 
 /// In order most of the time.
 fn any_span(random: &mut Random) -> (i16, i16) {
@@ -124,31 +105,6 @@ fn list(random: &mut Random) -> Vec<i16> {
     list
 }
 
-fn side(random: &mut Random) -> [i16; 3] {
-    match random.below(40) {
-        0 => [any(random), any(random), any(random)],
-        1..=12 => {
-            let start = if random.one_in(20) { any(random).clamp(-20000, 19000) } else { random.within(-3, 6) as i16 };
-            [0, start, start + random.within(1, 3) as i16]
-        }
-        13 => [1, any(random), 0],
-        _ => [1, random.within(1, 4) as i16, 0],
-    }
-}
-
-fn items(random: &mut Random) -> Vec<i16> {
-    let count = match random.below(1000) {
-        0 => random.pick(&[1999, 2000, 2001]),
-        1..=10 => random.within(50, 200),
-        _ => random.within(0, 12),
-    };
-    let mut items: Vec<i16> = (0..2 * count).flat_map(|_| side(random)).collect();
-    if random.one_in(20) {
-        items.truncate(items.len().saturating_sub(random.below(7) as usize));
-    }
-    items
-}
-
 /// The number that each call gave, 0 for an answer.
 fn execute(random: &mut Random) -> (usize, u8) {
     let call = random.below(CALLS.len() as u64) as usize;
@@ -181,7 +137,7 @@ fn execute(random: &mut Random) -> (usize, u8) {
             0
         }
         _ => {
-            let flow = if random.one_in(30) { random.next() as u8 } else { random.below(4) as u8 };
+            let flow = any_flow(random);
             let (columns, rows) = (any_counts(random), any_counts(random));
             let items = items(random);
             let answers = items.len() / 6 * 5;
@@ -214,19 +170,8 @@ fn watch(seed: u64) {
 }
 
 fn wanted() -> Option<(u64, u64, Option<u64>)> {
-    let clock = std::time::SystemTime::now().duration_since(std::time::UNIX_EPOCH);
-    let (mut seconds, mut seed, mut only) = (60, clock.map_or(1, |time| time.as_nanos() as u64), None);
-    let mut words = std::env::args().skip(1);
-    while let Some(word) = words.next() {
-        let number = words.next()?.parse().ok()?;
-        match word.as_str() {
-            "--seconds" => seconds = number,
-            "--seed" => seed = number,
-            "--only" => only = Some(number),
-            _ => return None,
-        }
-    }
-    Some((seconds, seed, only))
+    let words = Words::read(&["--seconds", "--seed", "--only"])?;
+    Some((words.number("--seconds")?.unwrap_or(60), words.seed()?, words.number("--only")?))
 }
 
 fn main() -> ExitCode {
@@ -241,9 +186,7 @@ fn main() -> ExitCode {
     let mut at = only.unwrap_or(1);
     while begun.elapsed().as_secs() < seconds {
         BEGUN.store(at, Relaxed);
-        // Far apart, so that the sequences of neighbours have nothing in common.
-        let mut random = Random::new(seed.wrapping_add(at.wrapping_mul(0xA076_1D64_78BD_642F)));
-        let (call, number) = execute(&mut random);
+        let (call, number) = execute(&mut random_of(seed, at));
         given[call][number as usize] += 1;
         if only.is_some() {
             break;
