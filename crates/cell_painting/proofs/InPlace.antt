@@ -15,7 +15,7 @@ use Rattle.signed.specs.Parts.{gap}
 use Rattle.signed.proofs.Laws.{signed}
 use Rattle.intervals.specs.Paint.{pt}
 use Rattle.intervals.specs.OverInt.{span}
-use Rattle.intervals.specs.Cut.{new, lx, P, sw}
+use Rattle.intervals.specs.Cut.{lx, P, sw}
 use Rattle.intervals.proofs.Split.{Late}
 use Rattle.intervals.proofs.Spans.{span-none, span-cons}
 use Rattle.intervals.proofs.Tracks.{K}

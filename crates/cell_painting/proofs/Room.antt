@@ -1,22 +1,20 @@
 -- A sweep that paints all has room where the list has two places more for each track: a track is left with at most two records more.
-use mathlib.Core.Path.{_≡_, ap, _∙_}
+use mathlib.Core.Path.{_≡_, ap}
 use mathlib.Core.Bool.{Bool, true, false, cond}
-use mathlib.Core.List.{List, [], _∷_, _++_}
+use mathlib.Core.List.{List, [], _∷_}
 use Prim.Native.Nat.{ℕ, zero, suc, _+_, _*_, _≤_}
 use native.Mathlib.Omega.{arith}
 use lib.Dec.{eqb}
 use lib.IntN.{ℤ, pos, _+ℤ_}
-use lib.Signed.{ltZ}
 use lib.ListN.{length, length-append}
 use mir.Syntax.{w16}
 use mir.Val.{ofZ}
 use Rattle.signed.specs.Parts.{gap}
-use Rattle.signed.proofs.Laws.{signed, by-test}
+use Rattle.signed.proofs.Laws.{signed}
 use Rattle.intervals.specs.Paint.{Point, pt, run}
 use Rattle.intervals.specs.OverInt.{span, upto}
-use Rattle.intervals.specs.Cut.{lrem, lstart, rtail, rend, new, lx, Rn, P, H, N, sw}
-use Rattle.intervals.proofs.Line.{_≺_}
-use Rattle.intervals.proofs.Tracks.{OK, K, one, sw-all, PT-keep}
+use Rattle.intervals.specs.Cut.{lrem, lstart, rtail, rend, new, lx, Rn, P, H, sw}
+use Rattle.intervals.proofs.Tracks.{K, one, sw-all, PT-keep}
 use Rattle.cell_painting.specs.Passes.{Good, Roomy}
 
 -- what is left before the painted run, and behind it, is one run at most

@@ -1,19 +1,17 @@
 -- Laws of laying a tile: a tile with limited lines can be painted, the test for room is the contract's, no refusal is room on both lists.
-use mathlib.Core.Path.{_≡_, refl, sym}
+use mathlib.Core.Path.{_≡_, refl}
 use mathlib.Core.Bool.{Bool, true, false, _||_}
 use mathlib.Core.List.{List, [], _∷_}
-use Prim.Native.Nat.{ℕ, zero, suc, _+_, _*_, _/_, _%_, _<_}
+use Prim.Native.Nat.{ℕ, zero, suc, _+_, _%_, _<_}
 use native.Mathlib.Omega.{arith}
-use borrow.Author.Tests.{ltb-true, ltb-false, lt-ltb, le-ltb}
 use lib.Bits.{bitOr, and-high, or-add-and}
-use lib.Dec.{ltb}
 use lib.IntN.{ℤ, pos, negsuc}
 use lib.ListN.{set}
 use lib.Seq.{sets}
 use lib.Signed.{_≤ℤ_}
 use mir.Syntax.{w16}
 use mir.Val.{SFits}
-use Rattle.signed.proofs.Laws.{signed, by-test, g-lt-true}
+use Rattle.signed.proofs.Laws.{signed, g-lt-true}
 use Rattle.intervals.specs.Records.{Rec}
 use Rattle.intervals.specs.OverInt.{fit, ok, paintList}
 use Rattle.cell_painting.specs.Painting.{areaOf, stateOf}

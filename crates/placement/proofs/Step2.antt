@@ -7,7 +7,7 @@ use Prim.Native.Nat.{ℕ, zero, suc, _+_, _*_, _/_, _≤_, _<_}
 use native.Mathlib.Omega.{arith}
 use borrow.Author.Tests.{eq-eqb, ltb-true, ltb-false}
 use lib.Dec.{ltb}
-use lib.IntN.{ℤ, pos, negsuc, _+ℤ_}
+use lib.IntN.{ℤ, pos}
 use lib.ListN.{length, getD, set, drop}
 use lib.Seq.{sets, getD-set-same, getD-set-other}
 use lib.Signed.{_≤ℤ_, _<ℤ_}
@@ -23,7 +23,7 @@ use Rattle.walk.specs.Axis.{Axis, col, row, other, Both, on, laid, from, limite
 use Rattle.walk.specs.Search.{firstLine}
 use Rattle.walk.specs.Walk.{Queued, Tile, Board, Setting, Choice, Run, going, stopped, tileOf, laidOn, endsOn, start2, freeAt, choose1, choose2, step1, step2, each}
 use Rattle.walk.specs.Rules.{mine2}
-use Rattle.walk.specs.Request.{numbers, itemOf, halves}
+use Rattle.walk.specs.Request.{numbers, itemOf}
 use Rattle.walk.specs.OnList.{written}
 use Rattle.walk.proofs.Tests.{clash}
 use Rattle.walk.proofs.FreeLaws.{step2-first}
@@ -45,7 +45,7 @@ use Rattle.placement.specs.declared.Stepped.the-variants.{Done, Refused}
 use Rattle.placement.specs.Laying.{Laying}
 use Rattle.placement.specs.Ready.{settingFor, Ready, AfterItem, AfterStep, primaryOf, secondaryOf}
 use Rattle.placement.specs.Ends.{recordedEnd, recordedStart, startPlace, endPlace, counted, endsBefore, EndsLast, Onward, startOf, Recorded, NoEnds, StandsAt}
-use Rattle.placement.proofs.Lays.{put-laid, secondary-recs, secondary-holds}
+use Rattle.placement.proofs.Lays.{put-laid, secondary-recs}
 use Rattle.placement.proofs.Onward.{ends-onward}
 
 -- ---- which items are this step's

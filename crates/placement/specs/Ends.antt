@@ -7,10 +7,9 @@ use Prim.Native.Nat.{ℕ, zero, suc, _+_, _*_, _<_}
 use lib.IntN.{ℤ, pos}
 use lib.ListN.{getD}
 use Rattle.signed.specs.Parts.{eqZ}
-use Rattle.grid_track_counts.specs.Counts.{gridStart}
 use Rattle.walk.specs.declared.Placement.{Placement}
 use Rattle.walk.specs.declared.Placement.the-variants.{Fixed, Spanned}
-use Rattle.walk.specs.Axis.{Axis, Both}
+use Rattle.walk.specs.Axis.{Both}
 use Rattle.walk.specs.Walk.{Board, endsOn, largest, largestOr}
 use Rattle.walk.specs.Rules.{mine2}
 use Rattle.request.specs.Items.{axisOf}

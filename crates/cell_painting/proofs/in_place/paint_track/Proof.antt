@@ -1,10 +1,7 @@
 -- `paint_track` meets its contract: one record is what the records that are reached become, or all is left to `paint_cut`.
 use mathlib.Core.Path.{_≡_, refl, sym, subst}
-use mathlib.Core.Bool.{true}
-use mathlib.Core.List.{List, [], _∷_}
 use Prim.Native.Nat.{ℕ, _+_, _-_, _*_, _≤_}
 use native.Mathlib.Omega.{arith}
-use lib.IntN.{ℤ, pos}
 use lib.ListN.{length, drop, length-drop}
 use lib.Seq.{paste}
 use mir.Syntax.{w16}

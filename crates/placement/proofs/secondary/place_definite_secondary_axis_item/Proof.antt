@@ -1,9 +1,8 @@
 -- `place_definite_secondary_axis_item` meets its contract: an item that is not fixed in the secondary axis only is passed over, and any other is laid on
 -- the first free primary line, which is `put` on the board. Assumes nothing.
 use borrow.Author.Needs.{needs}
-use mathlib.Core.Path.{_≡_, refl, sym, ap, _∙_, subst}
-use mathlib.Core.Bool.{Bool, not}
-use mathlib.Core.List.{List}
+use mathlib.Core.Path.{_≡_, refl, sym, ap, _∙_}
+use mathlib.Core.Bool.{not}
 use Prim.Native.Nat.{ℕ, _≤_}
 use native.Mathlib.Omega.{arith}
 use lib.IntN.{ℤ}
@@ -12,13 +11,13 @@ use Rattle.signed.proofs.Laws.{signed}
 use Rattle.coordinates.specs.declared.Lines.{Lines}
 use Rattle.walk.specs.declared.Placement.{Placement}
 use Rattle.walk.specs.declared.Placement.the-variants.{Fixed, Spanned}
-use Rattle.walk.specs.Axis.{Axis, Both, other, on}
-use Rattle.walk.specs.Walk.{Board, step2}
+use Rattle.walk.specs.Axis.{Axis, other, on}
+use Rattle.walk.specs.Walk.{step2}
 use Rattle.walk.specs.Request.{itemOf}
 use Rattle.request.specs.Items.{axisOf, itemAt}
 use Rattle.request.proofs.Items.{good-placement}
 use Rattle.placement.specs.Ready.{settingFor, primaryOf, secondaryOf}
-use Rattle.placement.proofs.Lays.{primary-holds, secondary-holds, sound-primary, sound-secondary, laying-long, passed, other-axis}
+use Rattle.placement.proofs.Lays.{primary-holds, secondary-holds, sound-primary, sound-secondary, passed, other-axis}
 use Rattle.placement.proofs.Step2.{pass-primary, pass-secondary, start-grid, step2-laid, span-in, lines-in}
 use Rattle.placement.proofs.secondary.place_definite_secondary_axis_item.Statement.{statement}
 use Rattle.placement.proofs.secondary.place_definite_secondary_axis_item.Tie as tie

@@ -1,8 +1,6 @@
 -- `primary_lines`: the search begins where the step says, and its sum fits since no search passes 10000. Assumes nothing.
 use borrow.Author.Needs.{needs}
 use mathlib.Core.Path.{_≡_, _∙_}
-use native.Mathlib.Omega.{arith}
-use Prim.Native.Nat.{ℕ}
 use lib.IntN.{ℤ, pos, _+ℤ_}
 use lib.Signed.{_≤ℤ_}
 use mir.Syntax.{w16}
