@@ -35,7 +35,7 @@ pub record Last (rs : List (Rec ℤ)) (t a b e : ℤ) : Type 0 where
   pub before : from <ℤ b
   pub past : a <ℤ e
 
-orElse-ends : (x y : Extent) (e : ℤ) → orElse x y ≡ X.Ends e → (x ≡ X.Ends e) ⊎ ((x ≡ X.Free) × (y ≡ X.Ends e))
+pub orElse-ends : (x y : Extent) (e : ℤ) → orElse x y ≡ X.Ends e → (x ≡ X.Ends e) ⊎ ((x ≡ X.Free) × (y ≡ X.Ends e))
 orElse-ends (X.Ends f) y e h = inl h
 orElse-ends X.Free y e h = inr (refl, h)
 
@@ -43,7 +43,7 @@ orElse-free : (x y : Extent) → orElse x y ≡ X.Free → (x ≡ X.Free) × (y 
 orElse-free (X.Ends f) y h = let z : _≡_ {A = ℕ} 0 1 = cc in absurd (omega arith)
 orElse-free X.Free y h = (refl, h)
 
-if-ends : (o : Bool) (d e : ℤ) → cond o (X.Ends d) X.Free ≡ X.Ends e → (o ≡ true) × (d ≡ e)
+pub if-ends : (o : Bool) (d e : ℤ) → cond o (X.Ends d) X.Free ≡ X.Ends e → (o ≡ true) × (d ≡ e)
 if-ends true d e h = (refl, cc)
 if-ends false d e h = let z : _≡_ {A = ℕ} 0 1 = cc in absurd (omega arith)
 
@@ -128,11 +128,11 @@ module _ (F : ℤ → Extent) where
 
 -- ---- the laws of the collision jump that a search needs
 
-data Shape (j : Jump) : Type 0 where
+pub data Shape (j : Jump) : Type 0 where
   next : (e : ℤ) → j ≡ J.Next e → Shape j
   free : j ≡ J.Free → Shape j
 
-shape : (j : Jump) → Shape j
+pub shape : (j : Jump) → Shape j
 shape (J.Next e) = next e refl
 shape J.Free = free refl
 

@@ -8,6 +8,7 @@ pub mod LastOverlap
 pub mod Crossed
 pub mod Cells
 pub mod Collisions
+pub mod Among
 pub mod Occupied
 pub mod Promises
 pub mod Examples

@@ -3,7 +3,8 @@ ghost use mathlib.Core.Path.{_≡_};
 ghost use Prim.Native.Nat.{_/_};
 ghost use lib.ListN.{length};
 ghost use lib.IntN.{ℤ};
-ghost use lib.Signed.{_<ℤ_};
+ghost use lib.Signed.{ltZ, _<ℤ_};
+ghost use mathlib.Core.Bool.{cond, _&&_};
 ghost use Rattle.intervals.specs.Lists.{Holds, recs};
 ghost use Rattle.cell_occupancy.specs.Calls.{extentOf, larger, collisionJump, occupiedJump};
 ghost use Rattle.cell_occupancy.specs.Inner.{Ascends, Crosses, Starting, Bounded};
@@ -101,9 +102,41 @@ fn larger(extent: Extent, jump: Jump) -> Jump
     }
 }
 
+// The end of a record, if it starts before the line `before` and ends later than the best so far.
+fn later(best: i16, begins: i16, ends: i16, before: i16) -> i16
+    ensures { λ r. ⌜ r ≡ cond (ltZ begins before && ltZ best ends) ends best ⌝ }
+{
+    if begins < before {
+        if best < ends {
+            return ends;
+        }
+    }
+    best
+}
+
 // The largest, over the crossed tracks, of the end of the last overlapping record. The records of the crossed tracks are those from
-// `first` up to `past`; they are taken track by track from behind, so that a track with no record costs nothing.
-pub fn collision_between(list: &[i16], first: usize, past: usize, start: i16, end: i16) -> Jump
+// `first` up to `past`. On a track no record ends later than the last one that overlaps, so all of them are looked at alike: for few
+// records that is cheaper than going by tracks.
+fn collision_among(list: &[i16], first: usize, past: usize, start: i16, end: i16) -> Jump
+    requires { ⌜ Crosses (now list) first past ⌝ }
+    ensures { λ r. ⌜ ((c : Crosses (now (list .entry)) first past) → r ≡ collisionJump (recs (c .used) (now (list .entry))) (c .low) (c .high) start end) ⌝ }
+{
+    let mut best = start;
+    let mut k = first;
+    while k < past {
+        let begins = number(list, 4 * k + 1);
+        let ends = number(list, 4 * k + 2);
+        best = later(best, begins, ends, end);
+        k += 1;
+    }
+    if start < best {
+        return Jump::Next(best);
+    }
+    Jump::Free
+}
+
+// The same, of many records: they are taken track by track from behind, so that a track with no record costs nothing.
+fn collision_by_tracks(list: &[i16], first: usize, past: usize, start: i16, end: i16) -> Jump
     requires { ⌜ Crosses (now list) first past ⌝ }
     ensures { λ r. ⌜ ((c : Crosses (now (list .entry)) first past) → r ≡ collisionJump (recs (c .used) (now (list .entry))) (c .low) (c .high) start end) ⌝ }
 {
@@ -116,6 +149,17 @@ pub fn collision_between(list: &[i16], first: usize, past: usize, start: i16, en
         k -= part.len() / 4;
     }
     best
+}
+
+// The same, of however many.
+pub fn collision_between(list: &[i16], first: usize, past: usize, start: i16, end: i16) -> Jump
+    requires { ⌜ Crosses (now list) first past ⌝ }
+    ensures { λ r. ⌜ ((c : Crosses (now (list .entry)) first past) → r ≡ collisionJump (recs (c .used) (now (list .entry))) (c .low) (c .high) start end) ⌝ }
+{
+    if past < first + 12 {
+        return collision_among(list, first, past, start, end);
+    }
+    collision_by_tracks(list, first, past, start, end)
 }
 
 // The same of the tracks track_start..track_end, whose records are found by halving.

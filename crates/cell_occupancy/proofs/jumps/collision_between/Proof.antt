@@ -1,101 +1,27 @@
--- `jumps::collision_between`: the jump over the tracks that were looked at, from behind. Assumes nothing.
-use mathlib.Core.Path.{ap, _∙_}
-use mathlib.Core.List.{List}
-use Prim.Native.Nat.{_≤_}
-use native.Mathlib.Omega.{arith}
-use lib.IntN.{ℤ}
-use mir.Syntax.{w16}
-use mir.Val.{toZ, ofZ}
-use mir.Facts.{toZ-ofZ}
-use Rattle.intervals.specs.Lists.{recs}
-use Rattle.cell_occupancy.specs.Calls.{larger, collisionJump}
-use Rattle.cell_occupancy.specs.Inner.{Front, Crosses}
-use Rattle.cell_occupancy.specs.declared.jumps.Extent.{Extent}
-use Rattle.cell_occupancy.proofs.ByIndex.{holds-front}
-use Rattle.cell_occupancy.proofs.LastOverlap.{part-ascends}
-use Rattle.cell_occupancy.proofs.Crossed.{in-order, SoFar, start-far, next-before, next-front, next-part, next-at, next-less, next-far, all-far}
+-- `jumps::collision_between`: by one look or by tracks, the same jump. Assumes nothing.
 use borrow.Author.Needs.{needs}
+use native.Mathlib.Omega.{arith}
+use mir.Facts.{toZ-ofZ}
+use Rattle.cell_occupancy.proofs.ByIndex.{holds-front}
+use Rattle.cell_occupancy.proofs.Crossed.{in-order}
 use Rattle.cell_occupancy.proofs.jumps.collision_between.Statement.{statement}
 use Rattle.cell_occupancy.proofs.jumps.collision_between.Tie as tie
 
-abbrev Inv-loop : tie.InvT-loop
-Inv-loop list first past start end k₀ best₀ k best = (first ≤ k) × ((x : Crosses list first past) → SoFar list (x .used) (x .low) (x .high) (toZ w16 start) (toZ w16 end) k best)
+add-if1 : tie.Need-add-if1
+add-if1 c = omega (arith, in-order (c .pre), holds-front (c .pre .holds) .room, c .pre .ends .within)
 
-abbrev μ-loop : tie.MeasureT-loop
-μ-loop list first past start end k₀ best₀ k best = k
+collision-among-requires : tie.Need-collision-among-requires
+collision-among-requires c κs = search needs
 
-loop-holds : tie.Need-loop-holds Inv-loop μ-loop
-loop-holds c =
-    (in-order (c .pre), λ x. start-far (c .args .list .now) (x .used) (x .low) (x .high) (toZ w16 (ofZ w16 (c .args .start))) (toZ w16 (ofZ w16 (c .args .end))) (c .args .past) (x .order) (x .ends))
+returns : tie.Need-returns
+returns c x = let s = c .before .before in rw (toZ-ofZ (s .fits .start), toZ-ofZ (s .fits .end)) at (c .collision-among .ensures x)
 
--- in a turn, of the crossed tracks that the call is given
-module _ (c : tie.In-loop Inv-loop μ-loop) where
-  abbrev z : tie.Start Inv-loop μ-loop
-  z = c .before .before
+collision-by-tracks-requires : tie.Need-collision-by-tracks-requires
+collision-by-tracks-requires c κs = search needs
 
-  abbrev l : List ℤ
-  l = z .args .list .now
-
-  abbrev x : Crosses l (z .args .first) (z .args .past)
-  x = z .pre
-
-  f : Front l (x .used)
-  f = holds-front (x .holds)
-
-  v : SoFar l (x .used) (x .low) (x .high) (toZ w16 (ofZ w16 (z .args .start))) (toZ w16 (ofZ w16 (z .args .end))) (c .before .loop .k) (c .before .loop .best)
-  v = c .before .loop .inv .1 x
-
-last-track-requires : tie.Need-last-track-requires Inv-loop μ-loop
-last-track-requires c κs =
-    let h = c .loop-test .taken in
-    (next-front (f c) (v c) (x c .begins) h, (h, next-before (f c) (v c) (x c .begins) h))
-
-collision-extent-requires : tie.Need-collision-extent-requires Inv-loop μ-loop
-collision-extent-requires c κs =
-    let q = c .before in
-    part-ascends (f q) (next-part (f q) (v q) (x q .begins) (q .loop-test .taken) (c .last-track .ensures))
-
-larger-requires : tie.Need-larger-requires Inv-loop μ-loop
-larger-requires c κs = search needs
-
-sub-k : tie.Need-sub-k Inv-loop μ-loop
-sub-k c =
-    let q = c .before .before .before in
-    omega (arith, next-at (f q) (v q) (x q .begins) (q .loop-test .taken) (c .before .before .last-track .ensures))
-
-loop-less : tie.Need-loop-less Inv-loop μ-loop
-loop-less c =
-    let q = c .before .before .before in
-    let w = c .before .before .last-track .ensures in
-    omega (arith, next-at (f q) (v q) (x q .begins) (q .loop-test .taken) w, next-less (f q) (v q) (x q .begins) (q .loop-test .taken) w)
-
-loop-again : tie.Need-loop-again Inv-loop μ-loop
-loop-again c =
-    let q = c .before .before .before in
-    let w = c .before .before .last-track .ensures in
-    let e = c .larger .ensures ∙ ap (λ (e : Extent). larger e (q .before .loop .best)) (c .before .collision-extent .ensures) in (
-      omega (arith, next-at (f q) (v q) (x q .begins) (q .loop-test .taken) w, w .low),
-      λ y. next-far (holds-front (y .holds)) (q .before .loop .inv .1 y) (y .begins) (q .loop-test .taken) (y .holds) w e,
-    )
-
-returns : tie.Need-returns Inv-loop μ-loop
-returns c =
-    let q = c .before in
-    let a = q .before in
-    λ y. all-far (q .loop .inv .1 y) (y .begins) (omega arith)
-    ∙ (λ i. collisionJump (recs (y .used) (a .args .list .now)) (y .low) (y .high) (toZ-ofZ (a .fits .start) i) (toZ-ofZ (a .fits .end) i))
+returns-2 : tie.Need-returns-2
+returns-2 c x = let s = c .before .before in rw (toZ-ofZ (s .fits .start), toZ-ofZ (s .fits .end)) at (c .collision-by-tracks .ensures x)
 
 pub collision-between-spec : {M : Type 1} → statement M
 collision-between-spec =
-    tie.close
-    (tie.spec
-    Inv-loop
-    μ-loop
-    loop-holds
-    last-track-requires
-    collision-extent-requires
-    larger-requires
-    sub-k
-    loop-less
-    loop-again
-    returns)
+    tie.close (tie.spec add-if1 collision-among-requires returns collision-by-tracks-requires returns-2)
