@@ -20,7 +20,7 @@ use Rattle.intervals.specs.OverInt.{ok, keeps, span}
 use Rattle.intervals.proofs.OverInt.{span-is}
 use Rattle.intervals.specs.Lists.{allIn, recs, onTrack}
 use Rattle.cell_occupancy.specs.Calls.{overlaps, orElse, extentOf, larger, over, collisionJump}
-use Rattle.cell_occupancy.specs.Inner.{trackNo, startNo, endNo, stateNo, Crosses}
+use Rattle.list_rules.specs.Inner.{trackNo, startNo, endNo, stateNo, Crosses}
 use Rattle.cell_occupancy.specs.declared.jumps.Extent.{Extent}
 use Rattle.cell_occupancy.specs.declared.jumps.Extent.the-variants as X
 use Rattle.cell_occupancy.specs.declared.jumps.Jump.{Jump}

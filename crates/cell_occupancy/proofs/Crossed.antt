@@ -19,13 +19,13 @@ use Rattle.intervals.proofs.Flat.{length-encode}
 use Rattle.intervals.proofs.OverInt.{digit-laws}
 use Rattle.intervals.specs.Lists.{recs, onTrack, Holds}
 use Rattle.cell_occupancy.specs.Calls.{extentOf, larger, over, collisionJump, pastTrack, orNext, occupiedJump}
-use Rattle.cell_occupancy.specs.Inner.{trackNo, startNo, endNo, stateNo, Front, Split, Crosses, Part, Tail}
+use Rattle.list_rules.specs.Inner.{trackNo, startNo, endNo, stateNo, Front, Split, Crosses, Part, Tail}
 use Rattle.cell_occupancy.specs.declared.jumps.Extent.{Extent}
 use Rattle.cell_occupancy.specs.declared.jumps.Extent.the-variants as X
 use Rattle.cell_occupancy.specs.declared.jumps.Jump.{Jump}
 use Rattle.cell_occupancy.specs.declared.jumps.Jump.the-variants as J
 use Rattle.intervals.proofs.Lists.{recs-enc}
-use Rattle.cell_occupancy.proofs.Sorted.{sorted, none-on, not-same, not-same₂, is-same, cut-is}
+use Rattle.list_tracks.proofs.Sorted.{sorted, none-on, not-same, not-same₂, is-same, cut-is}
 use Rattle.intervals.proofs.Spans.{span-none, span-cons}
 use Rattle.cell_occupancy.proofs.Over.{skip-front, skip-back, all-free}
 

@@ -3,8 +3,10 @@ use mathlib.Core.Path.{_≡_, refl}
 use mathlib.Core.List.{List, [], _∷_}
 use lib.IntN.{ℤ, pos, negsuc}
 use Rattle.intervals.specs.OverInt.{span, decode}
-use Rattle.cell_occupancy.specs.Calls.{keptOf, collisionJump, occupiedJump, recordsOfTrack}
-use Rattle.cell_occupancy.specs.declared.rules.Used.the-variants.{Records, Broken}
+use Rattle.list_rules.specs.Kept.{keptOf}
+use Rattle.cell_occupancy.specs.Calls.{collisionJump, occupiedJump}
+use Rattle.list_tracks.specs.Tracks.{recordsOfTrack}
+use Rattle.list_rules.specs.declared.rules.Used.the-variants.{Records, Broken}
 use Rattle.cell_occupancy.specs.declared.jumps.Jump.the-variants.{Next, Free}
 
 -- 11: records 2..5 and 7..9

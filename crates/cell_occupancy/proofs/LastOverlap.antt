@@ -15,7 +15,7 @@ use Rattle.intervals.specs.Records.{Rec, rec}
 use Rattle.intervals.proofs.Index.{rows-snoc}
 use Rattle.intervals.specs.Lists.{recs}
 use Rattle.cell_occupancy.specs.Calls.{overlaps, orElse, extentOf}
-use Rattle.cell_occupancy.specs.Inner.{trackNo, startNo, endNo, stateNo, mayFollow, Front, Part, Ascends}
+use Rattle.list_rules.specs.Inner.{trackNo, startNo, endNo, stateNo, mayFollow, Front, Part, Ascends}
 use Rattle.cell_occupancy.specs.declared.jumps.Extent.{Extent}
 use Rattle.cell_occupancy.specs.declared.jumps.Extent.the-variants.{Ends, Free}
 

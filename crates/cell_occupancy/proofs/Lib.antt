@@ -1,8 +1,3 @@
-pub mod ByIndex
-pub mod Turns
-pub mod Sorted
-pub mod Named
-pub mod Standing
 pub mod Over
 pub mod LastOverlap
 pub mod Crossed

@@ -10,11 +10,13 @@ use lib.Signed.{_<ℤ_}
 use Rattle.intervals.specs.Records.{Rec}
 use Rattle.intervals.specs.OverInt.{flat}
 use Rattle.intervals.specs.Lists.{rules, recs, Free}
-use Rattle.cell_occupancy.specs.Calls.{keptOf, collisionJump, occupiedJump, Stands}
-use Rattle.cell_occupancy.specs.declared.rules.Used.the-variants.{Records}
+use Rattle.list_rules.specs.Kept.{keptOf}
+use Rattle.cell_occupancy.specs.Calls.{collisionJump, occupiedJump}
+use Rattle.list_tracks.specs.Tracks.{Stands}
+use Rattle.list_rules.specs.declared.rules.Used.the-variants.{Records}
 use Rattle.cell_occupancy.specs.declared.jumps.Jump.the-variants as J
 use Rattle.intervals.proofs.Lists.{length-recs, recs-enc}
-use Rattle.cell_occupancy.proofs.Named.{records-holds, holds-records}
+use Rattle.list_tracks.proofs.Named.{records-holds, holds-records}
 use Rattle.cell_occupancy.specs.Meaning.{IsFlatOf, Collides, IsClear, LastTrack}
 use Rattle.cell_occupancy.proofs.Collisions.{jump-free, jump-next}
 use Rattle.cell_occupancy.proofs.Occupied.{clear-jump, last-jump}

@@ -7,10 +7,10 @@ ghost use lib.Signed.{ltZ, _<ℤ_};
 ghost use mathlib.Core.Bool.{cond, _&&_};
 ghost use Rattle.intervals.specs.Lists.{Holds, recs};
 ghost use Rattle.cell_occupancy.specs.Calls.{extentOf, larger, collisionJump, occupiedJump};
-ghost use Rattle.cell_occupancy.specs.Inner.{Ascends, Crosses, Starting, Bounded};
-use crate::rules::number;
-use crate::tracks::last_track;
-use crate::tracks::lower;
+ghost use Rattle.list_rules.specs.Inner.{Ascends, Crosses, Starting, Bounded};
+use list_rules::rules::number;
+use list_tracks::tracks::last_track;
+use list_tracks::tracks::lower;
 
 // What a track has against some lines: the line where the last record that overlaps them ends.
 pub enum Extent {

@@ -11,7 +11,7 @@ ghost use Rattle.cell_painting.specs.Reach.{earlyR, lateR, beforeLate, a
 ghost use mathlib.Core.Bool.{true, false};
 ghost use Rattle.intervals.specs.Lists.{Holds};
 ghost use Rattle.cell_painting.specs.Passes.{Tail};
-use cell_occupancy::tracks::lower;
+use list_tracks::tracks::lower;
 
 // Reading order: by track, then position.
 fn before(t: i16, p: i16, u: i16, q: i16) -> bool

@@ -8,9 +8,9 @@ use lib.IntN.{ℤ}
 use Rattle.signed.proofs.Laws.{by-test}
 use Rattle.intervals.specs.Lists.{Holds, kept, used, goodLength}
 use Rattle.intervals.proofs.Lists.{kept-holds}
-use Rattle.cell_occupancy.specs.declared.rules.Used.{Used}
-use Rattle.cell_occupancy.specs.declared.rules.Used.the-variants.{Records, Broken}
-use Rattle.cell_occupancy.specs.Calls.{keptOf}
+use Rattle.list_rules.specs.declared.rules.Used.{Used}
+use Rattle.list_rules.specs.declared.rules.Used.the-variants.{Records, Broken}
+use Rattle.list_rules.specs.Kept.{keptOf}
 use Rattle.hoarbale.specs.Lists.{checkedOf}
 use Rattle.hoarbale.specs.declared.lists.Checked.{Checked}
 use Rattle.hoarbale.specs.declared.lists.Checked.the-variants as C

@@ -1,11 +1,11 @@
 // Calls on one list: painting, the two jumps, and the records of a track.
 ghost use mathlib.Core.Path.{_≡_};
-ghost use Rattle.cell_occupancy.specs.Calls.{recordsOfTrack};
+ghost use Rattle.list_tracks.specs.Tracks.{recordsOfTrack};
 ghost use Rattle.intervals.specs.Lists.{goodArea};
 ghost use Rattle.cell_painting.specs.Painting.{areaOf};
 ghost use Rattle.hoarbale.specs.Lists.{checkedOf, paintAnswer, paintLeft, jumpAnswer, collisionAnswer, occupiedAnswer};
 use cell_occupancy::jumps::Jump;
-use cell_occupancy::rules::Used;
+use list_rules::rules::Used;
 use cell_painting::Painted;
 
 // How many records a list holds, or why it is not taken.
@@ -37,7 +37,7 @@ fn checked_list(list: &[i16]) -> Checked
     if 1048576 < list.len() {
         return Checked::Refused(5);
     }
-    let held = cell_occupancy::rules::kept(list);
+    let held = list_rules::rules::kept(list);
     match held {
         Used::Records(n) => Checked::Records(n),
         Used::Broken => Checked::Refused(9),
@@ -174,5 +174,5 @@ pub fn occupied_track_jump(list: &[i16], track_start: i16, track_end: i16) -> Ju
 pub fn records_of_track<'a>(rows: &'a [i16], columns: &'a [i16], axis: u8, track: i16) -> &'a [i16]
     ensures { λ r. ⌜ now r ≡ recordsOfTrack (now (rows .entry)) (now (columns .entry)) axis track ⌝ }
 {
-    cell_occupancy::tracks::records_of_track(rows, columns, axis, track)
+    list_tracks::tracks::records_of_track(rows, columns, axis, track)
 }

@@ -1,6 +1,6 @@
 // Calls on one list. A returned part of a list becomes its start and its length.
 ghost use mathlib.Core.Path.{_≡_};
-ghost use Rattle.cell_occupancy.specs.Calls.{recordsOfTrack, named, Stands};
+ghost use Rattle.list_tracks.specs.Tracks.{recordsOfTrack, named, Stands};
 ghost use Rattle.cell_painting.specs.Painting.{areaOf};
 ghost use Rattle.hoarbale.specs.Lists.{paintAnswer, paintLeft, paintNumber, collisionAnswer, occupiedAnswer};
 ghost use Rattle.hoarbale_c.specs.Lists.{ofJump};
@@ -96,7 +96,7 @@ pub extern "C" fn hoarbale_records_of_track(
 ) -> PartOfList
     ensures { λ r. ⌜ Stands (named (now (rows .entry)) (now (columns .entry)) axis) track (recordsOfTrack (now (rows .entry)) (now (columns .entry)) axis track) (r .start) (r .length) ⌝ }
 {
-    let place = cell_occupancy::tracks::track_place(rows, columns, axis, track);
+    let place = list_tracks::tracks::track_place(rows, columns, axis, track);
     PartOfList {
         start: place.start,
         length: place.length,

@@ -23,7 +23,7 @@ use crate::Laid;
 use crate::Matrix;
 use crate::Stepped;
 use crate::lay::lay;
-use cell_occupancy::rules::number;
+use list_rules::rules::number;
 use coordinates::Lines;
 use request::placement_on;
 use searching::first_free_line;

@@ -9,7 +9,7 @@ ghost use mir.Val.{SFits};
 ghost use Rattle.walk.specs.Axis.{on};
 ghost use Rattle.walk.specs.Request.{half, halves, goodHalf, goodItem, badFrom, placingOf, itemOf};
 ghost use Rattle.request.specs.Items.{numberAt, itemAt, firstBadOf, axisOf};
-use cell_occupancy::rules::number;
+use list_rules::rules::number;
 use coordinates::Lines;
 use walk::Placement;
 

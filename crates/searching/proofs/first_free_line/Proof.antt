@@ -12,9 +12,9 @@ use Rattle.signed.proofs.Laws.{signed, rng, fit16}
 use Rattle.intervals.specs.Lists.{recs}
 use Rattle.coordinates.specs.Line.{lines}
 use Rattle.cell_occupancy.specs.Calls.{collisionJump}
-use Rattle.cell_occupancy.specs.Inner.{Split, Crosses}
-use Rattle.cell_occupancy.proofs.ByIndex.{holds-front}
-use Rattle.cell_occupancy.proofs.Sorted.{split-as}
+use Rattle.list_rules.specs.Inner.{Split, Crosses}
+use Rattle.list_rules.proofs.ByIndex.{holds-front}
+use Rattle.list_tracks.proofs.Sorted.{split-as}
 use Rattle.walk.specs.Search.{firstLine}
 use Rattle.searching.proofs.Turns.{clearLine, Further, line-here, line-on}
 use Rattle.searching.proofs.first_free_line.Statement.{statement}

@@ -16,9 +16,9 @@ use Rattle.signed.proofs.Laws.{signed, sum, rng, fit16}
 use Rattle.intervals.specs.Records.{Rec}
 use Rattle.intervals.specs.Lists.{recs, rules}
 use Rattle.cell_occupancy.specs.Calls.{collisionJump}
-use Rattle.cell_occupancy.specs.Inner.{Front, Split, Crosses}
-use Rattle.cell_occupancy.proofs.ByIndex.{holds-front}
-use Rattle.cell_occupancy.proofs.Sorted.{split-as}
+use Rattle.list_rules.specs.Inner.{Front, Split, Crosses}
+use Rattle.list_rules.proofs.ByIndex.{holds-front}
+use Rattle.list_tracks.proofs.Sorted.{split-as}
 use Rattle.walk.specs.Search.{at}
 use Rattle.searching.specs.Clear.{Inside}
 use Rattle.searching.proofs.Turns.{pairFound, Along, pair-here, pair-on, pair-down, pair-within, stripe-found}

@@ -9,7 +9,7 @@ use mir.Syntax.{w16}
 use mir.Val.{toZ, ofZ}
 use mir.Facts.{toZ-ofZ}
 use Rattle.signed.proofs.Laws.{signed}
-use Rattle.cell_occupancy.proofs.ByIndex.{holds-front}
+use Rattle.list_rules.proofs.ByIndex.{holds-front}
 use Rattle.cell_occupancy.proofs.Crossed.{in-order}
 use Rattle.cell_occupancy.proofs.Among.{Best, best-none, best-step, jump-found, jump-missed}
 use Rattle.cell_occupancy.proofs.jumps.collision_among.Statement.{statement}

@@ -2,7 +2,7 @@
 use borrow.Author.Needs.{needs}
 use native.Mathlib.Omega.{arith}
 use mir.Facts.{toZ-ofZ}
-use Rattle.cell_occupancy.proofs.ByIndex.{holds-front}
+use Rattle.list_rules.proofs.ByIndex.{holds-front}
 use Rattle.cell_occupancy.proofs.Crossed.{in-order}
 use Rattle.cell_occupancy.proofs.jumps.collision_between.Statement.{statement}
 use Rattle.cell_occupancy.proofs.jumps.collision_between.Tie as tie

@@ -9,9 +9,9 @@ use mir.Val.{toZ, ofZ}
 use mir.Facts.{toZ-ofZ}
 use Rattle.intervals.specs.Lists.{recs}
 use Rattle.cell_occupancy.specs.Calls.{larger, collisionJump}
-use Rattle.cell_occupancy.specs.Inner.{Front, Crosses}
+use Rattle.list_rules.specs.Inner.{Front, Crosses}
 use Rattle.cell_occupancy.specs.declared.jumps.Extent.{Extent}
-use Rattle.cell_occupancy.proofs.ByIndex.{holds-front}
+use Rattle.list_rules.proofs.ByIndex.{holds-front}
 use Rattle.cell_occupancy.proofs.LastOverlap.{part-ascends}
 use Rattle.cell_occupancy.proofs.Crossed.{in-order, SoFar, start-far, next-before, next-front, next-part, next-at, next-less, next-far, all-far}
 use borrow.Author.Needs.{needs}

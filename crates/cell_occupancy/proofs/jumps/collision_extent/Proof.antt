@@ -10,7 +10,7 @@ use mir.Facts.{toZ-ofZ}
 use Rattle.signed.proofs.Laws.{signed, g-lt-true}
 use Rattle.intervals.specs.Lists.{recs}
 use Rattle.cell_occupancy.specs.Calls.{extentOf}
-use Rattle.cell_occupancy.specs.Inner.{startNo, endNo, Starting}
+use Rattle.list_rules.specs.Inner.{startNo, endNo, Starting}
 use Rattle.cell_occupancy.proofs.LastOverlap.{extent-step, late-off, settled}
 use Rattle.cell_occupancy.proofs.jumps.collision_extent.Statement.{statement}
 use Rattle.cell_occupancy.proofs.jumps.collision_extent.Tie as tie

@@ -5,9 +5,9 @@ use mir.Facts.{toZ-ofZ}
 use Rattle.signed.proofs.Laws.{signed}
 use Rattle.intervals.specs.Lists.{recs}
 use Rattle.cell_occupancy.specs.Calls.{collisionJump}
-use Rattle.cell_occupancy.specs.Inner.{Split, Crosses}
-use Rattle.cell_occupancy.proofs.ByIndex.{holds-front}
-use Rattle.cell_occupancy.proofs.Sorted.{split-as}
+use Rattle.list_rules.specs.Inner.{Split, Crosses}
+use Rattle.list_rules.proofs.ByIndex.{holds-front}
+use Rattle.list_tracks.proofs.Sorted.{split-as}
 use Rattle.cell_occupancy.proofs.jumps.collision_jump.Statement.{statement}
 use Rattle.cell_occupancy.proofs.jumps.collision_jump.Tie as tie
 

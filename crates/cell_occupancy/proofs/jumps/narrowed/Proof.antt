@@ -6,8 +6,8 @@ use mir.Syntax.{w16}
 use mir.Val.{toZ}
 use mir.Facts.{toZ-ofZ}
 use Rattle.signed.proofs.Laws.{signed}
-use Rattle.cell_occupancy.specs.Inner.{startNo}
-use Rattle.cell_occupancy.proofs.Sorted.{Halving, go-up, go-down, bounded}
+use Rattle.list_rules.specs.Inner.{startNo}
+use Rattle.list_tracks.proofs.Sorted.{Halving, go-up, go-down, bounded}
 use Rattle.cell_occupancy.proofs.LastOverlap.{starts-rise}
 use Rattle.cell_occupancy.proofs.jumps.narrowed.Statement.{statement}
 use Rattle.cell_occupancy.proofs.jumps.narrowed.Tie as tie

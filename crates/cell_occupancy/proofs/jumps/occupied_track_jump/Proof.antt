@@ -7,11 +7,11 @@ use mir.Syntax.{w16}
 use mir.Val.{toZ, ofZ}
 use mir.Facts.{toZ-ofZ}
 use Rattle.signed.proofs.Laws.{signed}
-use Rattle.cell_occupancy.specs.Inner.{trackNo, Split}
+use Rattle.list_rules.specs.Inner.{trackNo, Split}
 use Rattle.cell_occupancy.specs.declared.jumps.Jump.the-variants.{Next}
 use Rattle.intervals.proofs.Lists.{holds-room}
-use Rattle.cell_occupancy.proofs.ByIndex.{holds-front}
-use Rattle.cell_occupancy.proofs.Sorted.{sorted, split-as}
+use Rattle.list_rules.proofs.ByIndex.{holds-front}
+use Rattle.list_tracks.proofs.Sorted.{sorted, split-as}
 use Rattle.cell_occupancy.proofs.Crossed.{occupied-none, occupied-some}
 use borrow.Author.Needs.{needs}
 use Rattle.cell_occupancy.proofs.jumps.occupied_track_jump.Statement.{statement}

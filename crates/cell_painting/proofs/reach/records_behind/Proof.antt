@@ -8,8 +8,8 @@ use mir.Syntax.{w16, w32}
 use mir.Val.{toZ, ofZ}
 use Rattle.signed.proofs.Laws.{signed}
 use Rattle.intervals.proofs.Lists.{holds-room}
-use Rattle.cell_occupancy.specs.Inner.{Split}
-use Rattle.cell_occupancy.proofs.ByIndex.{holds-front}
+use Rattle.list_rules.specs.Inner.{Split}
+use Rattle.list_rules.proofs.ByIndex.{holds-front}
 use Rattle.flat_records.specs.Fours.{fours}
 use Rattle.cell_painting.specs.Passes.{Above}
 use Rattle.cell_painting.proofs.Above.{above-at}

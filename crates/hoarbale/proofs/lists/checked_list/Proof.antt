@@ -6,9 +6,9 @@ use mathlib.Core.Bool.{cond}
 use Prim.Native.Nat.{_%_}
 use lib.ListN.{length}
 use Rattle.intervals.specs.Lists.{kept, used}
-use Rattle.cell_occupancy.specs.declared.rules.Used.{Used}
-use Rattle.cell_occupancy.specs.declared.rules.Used.the-variants.{Records, Broken}
-use Rattle.cell_occupancy.specs.Calls.{keptOf}
+use Rattle.list_rules.specs.declared.rules.Used.{Used}
+use Rattle.list_rules.specs.declared.rules.Used.the-variants.{Records, Broken}
+use Rattle.list_rules.specs.Kept.{keptOf}
 use Rattle.hoarbale.specs.Lists.{checkedOf}
 use Rattle.hoarbale.specs.declared.lists.Checked.{Checked}
 use Rattle.hoarbale.specs.declared.lists.Checked.the-variants as C

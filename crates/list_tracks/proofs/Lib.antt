@@ -1,0 +1,3 @@
+pub mod Sorted
+pub mod Named
+pub mod Standing
