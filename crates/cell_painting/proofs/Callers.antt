@@ -17,7 +17,7 @@ use Rattle.intervals.proofs.OverInt.{paintList-cell}
 use Rattle.intervals.proofs.Lists.{flat-holds, flat-recs, empty-holds}
 use Rattle.intervals.proofs.Limits.{paintList-rules}
 use Rattle.cell_painting.specs.Painting.{stateOf, areaOf}
-use Rattle.cell_painting.proofs.Bits.{ζ}
+use Rattle.track_pieces.proofs.Bits.{ζ}
 
 -- a list that was painted with a good area holds the records of the paint: `x` is the list and n the count that `repaint` leaves
 pub painted-holds : {l x : List ℤ} {used n : ℕ} (t₁ t₂ a b s : ℤ) → Holds l used → goodArea (areaOf t₁ t₂ a b s) ≡ true

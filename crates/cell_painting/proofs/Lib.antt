@@ -1,12 +1,2 @@
-pub mod Bits
-pub mod Build
-pub mod Found
-pub mod Above
-pub mod Count
-pub mod Moves
-pub mod Room
-pub mod Sweep
-pub mod Swept
-pub mod InPlace
 pub mod Whole
 pub mod Callers

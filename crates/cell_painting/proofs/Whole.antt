@@ -30,13 +30,13 @@ use Rattle.intervals.proofs.Spans.{dis-span, in-self}
 use Rattle.flat_records.specs.Fours.{Four, enc, fours, fourAt}
 use Rattle.flat_records.proofs.Fours.{laid-is, length-enc, length-fours, fours-snoc, enc-fours}
 use Rattle.cell_painting.specs.Painting.{stateOf, areaOf}
-use Rattle.cell_painting.specs.Reach as Re
-use Rattle.cell_painting.specs.Reach.{runs, Stored}
-use Rattle.cell_painting.specs.Passes.{Good, Ready, Roomy, Swept}
-use Rattle.cell_painting.proofs.Build.{map-append}
-use Rattle.cell_painting.proofs.Above.{in-span}
-use Rattle.cell_painting.proofs.Count.{length-runs}
-use Rattle.cell_painting.proofs.Room.{two-each}
+use Rattle.track_pieces.specs.Reach as Re
+use Rattle.track_pieces.specs.Reach.{runs, Stored}
+use Rattle.track_pieces.specs.Passes.{Good, Ready, Roomy, Swept}
+use Rattle.track_pieces.proofs.Build.{map-append}
+use Rattle.track_pieces.proofs.Above.{in-span}
+use Rattle.track_sweeps.proofs.Count.{length-runs}
+use Rattle.track_in_place.proofs.Room.{two-each}
 
 -- ---- states: 1 and 2 are their own bits
 

@@ -1,3 +1,1 @@
 pub mod Painting
-pub mod Reach
-pub mod Passes

@@ -1,9 +1,5 @@
 // Changing a row list or a column list: counting the records that a paint leaves, painting, clearing. A list is changed in place, without
 // scratch memory, in time in proportion to its records and to the tracks crossed; where the area lies behind the last record, to its tracks.
-mod in_place;
-mod pieces;
-mod reach;
-mod sweeps;
 
 ghost use mathlib.Core.Path.{_≡_};
 ghost use mathlib.Core.Bool.{true};
@@ -11,16 +7,16 @@ ghost use Prim.Native.Nat.{_+_, _*_, _≤_, _<_};
 ghost use lib.Dec.{ltb};
 ghost use lib.Signed.{ltZ};
 ghost use Rattle.signed.specs.Parts.{gap};
-ghost use Rattle.cell_painting.specs.Passes.{Tail};
+ghost use Rattle.track_pieces.specs.Passes.{Tail};
 ghost use lib.ListN.{length, replicate};
 ghost use lib.IntN.{pos};
 ghost use Rattle.intervals.specs.OverInt.{fit, flat, paintList};
 ghost use Rattle.intervals.specs.Lists.{recs, Holds};
 ghost use Rattle.cell_painting.specs.Painting.{areaOf};
-use crate::in_place::paint_tracks;
-use crate::pieces::cut_track;
-use crate::reach::records_behind;
-use crate::sweeps::sweep;
+use track_in_place::in_place::paint_tracks;
+use track_pieces::pieces::cut_track;
+use track_pieces::reach::records_behind;
+use track_sweeps::sweeps::sweep;
 use flat_records::wipe;
 
 // How many records there are once the area is painted. Tracks are gone through from the last to the first, and records likewise.

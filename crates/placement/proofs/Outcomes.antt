@@ -21,11 +21,11 @@ use Rattle.walk.proofs.Answers.{written-is}
 use Rattle.walk.proofs.Promises.{is-answered, room-refuses, room-zero, all-placed, only-items}
 use Rattle.request.specs.Items.{itemAt, requestOf}
 use Rattle.request.proofs.Items.{queued, halves-at}
-use Rattle.placement.specs.declared.Matrix.{Matrix}
-use Rattle.placement.specs.declared.Stepped.{Stepped}
-use Rattle.placement.specs.declared.Stepped.the-variants as S
+use Rattle.laying.specs.declared.Matrix.{Matrix}
+use Rattle.laying.specs.declared.Stepped.{Stepped}
+use Rattle.laying.specs.declared.Stepped.the-variants as S
 use Rattle.placement.specs.declared.checked.Placing.the-variants as P
-use Rattle.placement.specs.Ready.{Items}
+use Rattle.laying.specs.Ready.{Items}
 use Rattle.placement.specs.Runs.{emptyBoard, runFor, LeftBy}
 use Rattle.placement.specs.Placing.{placingOf, byColumns}
 

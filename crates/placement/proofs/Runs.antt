@@ -18,11 +18,11 @@ use Rattle.walk.proofs.WalkLaws.{Kept, Clear}
 use Rattle.walk.proofs.OnLists.{records-none}
 use Rattle.request.specs.Items.{axisOf}
 use Rattle.request.proofs.Items.{queued}
-use Rattle.placement.specs.declared.Matrix.{Matrix}
-use Rattle.placement.specs.declared.Stepped.{Stepped}
-use Rattle.placement.specs.declared.Stepped.the-variants.{Done, Refused}
-use Rattle.placement.specs.Ready.{settingFor, Ready, Stopped, AfterStep}
-use Rattle.placement.specs.Ends.{NoEnds}
+use Rattle.laying.specs.declared.Matrix.{Matrix}
+use Rattle.laying.specs.declared.Stepped.{Stepped}
+use Rattle.laying.specs.declared.Stepped.the-variants.{Done, Refused}
+use Rattle.laying.specs.Ready.{settingFor, Ready, Stopped, AfterStep}
+use Rattle.step_secondary.specs.Ends.{NoEnds}
 use Rattle.placement.specs.Runs.{emptyBoard, runFor, LeftBy, AfterRun}
 
 -- ---- a step's answer tells how the walk went

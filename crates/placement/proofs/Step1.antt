@@ -17,13 +17,13 @@ use Rattle.walk.proofs.Loops.{each-next, each-stop, each-end}
 use Rattle.walk.proofs.Checks.{halves-length}
 use Rattle.request.specs.Items.{itemAt}
 use Rattle.request.proofs.Items.{queued, queue-drop, queue-end}
-use Rattle.placement.specs.declared.Matrix.{Matrix}
-use Rattle.placement.specs.declared.Laid.{Laid}
-use Rattle.placement.specs.declared.Laid.the-variants.{On, Short}
-use Rattle.placement.specs.declared.Stepped.the-variants.{Done, Refused}
-use Rattle.placement.specs.Laying.{Laying}
-use Rattle.placement.specs.Ready.{settingFor, Ready, Stopped, AfterItem, AfterStep, primaryOf, secondaryOf}
-use Rattle.placement.proofs.Lays.{put-laid}
+use Rattle.laying.specs.declared.Matrix.{Matrix}
+use Rattle.laying.specs.declared.Laid.{Laid}
+use Rattle.laying.specs.declared.Laid.the-variants.{On, Short}
+use Rattle.laying.specs.declared.Stepped.the-variants.{Done, Refused}
+use Rattle.laying.specs.Laying.{Laying}
+use Rattle.laying.specs.Ready.{settingFor, Ready, Stopped, AfterItem, AfterStep, primaryOf, secondaryOf}
+use Rattle.laying.proofs.Lays.{put-laid}
 
 pub pass-primary : (w : Setting) (i : ℕ) (P S : Placement) (t : Board) (n : ℕ) → P ≡ Spanned n → step1 w i P S t ≡ going t
 unfolding step1

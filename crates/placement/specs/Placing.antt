@@ -2,8 +2,8 @@
 use mathlib.Core.Bool.{Bool, cond}
 use Prim.Native.Nat.{ℕ}
 use Rattle.walk.specs.Request.{Outcome, refused, answered}
-use Rattle.placement.specs.declared.Stepped.{Stepped}
-use Rattle.placement.specs.declared.Stepped.the-variants as S
+use Rattle.laying.specs.declared.Stepped.{Stepped}
+use Rattle.laying.specs.declared.Stepped.the-variants as S
 use Rattle.placement.specs.declared.checked.Placing.{Placing}
 use Rattle.placement.specs.declared.checked.Placing.the-variants as P
 

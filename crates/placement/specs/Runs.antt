@@ -13,10 +13,10 @@ use Rattle.walk.specs.Walk.{Board, Run, going, stopped, recordsOn, walk}
 use Rattle.walk.specs.OnList.{written}
 use Rattle.request.specs.Items.{axisOf}
 use Rattle.request.proofs.Items.{queued}
-use Rattle.placement.specs.declared.Matrix.{Matrix}
-use Rattle.placement.specs.declared.Stepped.{Stepped}
-use Rattle.placement.specs.declared.Stepped.the-variants.{Done, Refused}
-use Rattle.placement.specs.Ready.{settingFor}
+use Rattle.laying.specs.declared.Matrix.{Matrix}
+use Rattle.laying.specs.declared.Stepped.{Stepped}
+use Rattle.laying.specs.declared.Stepped.the-variants.{Done, Refused}
+use Rattle.laying.specs.Ready.{settingFor}
 
 -- "no tiles, the request's counts"
 abbrev pub emptyBoard : Bool → TrackCounts → TrackCounts → Board

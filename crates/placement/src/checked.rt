@@ -5,7 +5,7 @@ ghost use lib.ListN.{length};
 ghost use Rattle.walk.specs.Request.{checked, outcome, answersLeft, rowsLeft, columnsLeft};
 ghost use Rattle.request.specs.Items.{requestOf};
 ghost use Rattle.placement.specs.Placing.{placingOf, byColumns};
-use crate::Stepped;
+use laying::Stepped;
 use crate::run::place_items;
 use grid_track_counts::TrackCounts;
 

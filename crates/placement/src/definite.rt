@@ -8,11 +8,11 @@ ghost use lib.ListN.{length};
 ghost use Rattle.walk.specs.Axis.{Both};
 ghost use Rattle.walk.specs.Walk.{Board, step1, each};
 ghost use Rattle.request.proofs.Items.{queued};
-ghost use Rattle.placement.specs.Ready.{settingFor, Ready, Stands, AfterItem, AfterStep, Items, primaryOf, secondaryOf};
-use crate::Laid;
-use crate::Matrix;
-use crate::Stepped;
-use crate::lay::lay;
+ghost use Rattle.laying.specs.Ready.{settingFor, Ready, Stands, AfterItem, AfterStep, Items, primaryOf, secondaryOf};
+use laying::Laid;
+use laying::Matrix;
+use laying::Stepped;
+use laying::lay::lay;
 use request::placement_on;
 use walk::Placement;
 

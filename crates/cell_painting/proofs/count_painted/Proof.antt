@@ -6,8 +6,8 @@ use mir.Facts.{toZ-ofZ}
 use Rattle.signed.specs.Parts.{gap}
 use Rattle.signed.proofs.Laws.{signed, rng}
 use Rattle.intervals.proofs.Lists.{holds-room}
-use Rattle.cell_painting.proofs.Bits.{back16, lt16-back, good-back}
-use Rattle.cell_painting.proofs.Count.{CInv, c-start, c-room, c-apart, c-low, c-high, c-next, c-done}
+use Rattle.track_pieces.proofs.Bits.{back16, lt16-back, good-back}
+use Rattle.track_sweeps.proofs.Count.{CInv, c-start, c-room, c-apart, c-low, c-high, c-next, c-done}
 use Rattle.cell_painting.proofs.Whole.{Asked, tracks, good, keep, total-is}
 use borrow.Author.Needs.{needs}
 use Rattle.cell_painting.proofs.count_painted.Statement.{statement}

@@ -10,7 +10,7 @@ use Rattle.intervals.specs.OverInt.{paintList}
 use Rattle.intervals.specs.Lists.{recs}
 use Rattle.intervals.proofs.Lists.{holds-room}
 use Rattle.cell_painting.specs.Painting.{areaOf}
-use Rattle.cell_painting.proofs.Bits.{lt16-back}
+use Rattle.track_pieces.proofs.Bits.{lt16-back}
 use Rattle.cell_painting.proofs.Callers.{count16}
 use Rattle.cell_painting.proofs.Whole.{Asked, tracks, room-enough, quarter}
 use Rattle.cell_painting.proofs.is_short.Statement.{statement}

@@ -5,7 +5,7 @@ use borrow.Author.Needs.{needs}
 use lib.ListN.{length}
 use Rattle.intervals.specs.Lists.{recs}
 use Rattle.intervals.proofs.Lists.{holds-room}
-use Rattle.cell_painting.proofs.Bits.{lt16-back}
+use Rattle.track_pieces.proofs.Bits.{lt16-back}
 use Rattle.cell_painting.proofs.Callers.{count16, list16, fit16}
 use Rattle.cell_painting.proofs.Whole.{Asked, tracks}
 use Rattle.cell_painting.proofs.paint_fitting.Statement.{statement}

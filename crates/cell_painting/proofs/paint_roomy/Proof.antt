@@ -5,8 +5,8 @@ use borrow.Author.Needs.{needs}
 use native.Mathlib.Omega.{arith}
 use mir.Facts.{toZ-ofZ}
 use Rattle.signed.specs.Parts.{gap}
-use Rattle.cell_painting.proofs.Bits.{lt16-back, good-back}
-use Rattle.cell_painting.proofs.Swept.{roomy-back, swept-plain, tail-back}
+use Rattle.track_pieces.proofs.Bits.{lt16-back, good-back}
+use Rattle.track_sweeps.proofs.Swept.{roomy-back, swept-plain, tail-back}
 use Rattle.cell_painting.proofs.Whole.{Asked, tracks, good, ready-to, roomy-all, painted}
 use Rattle.cell_painting.proofs.paint_roomy.Statement.{statement}
 use Rattle.cell_painting.proofs.paint_roomy.Tie as tie

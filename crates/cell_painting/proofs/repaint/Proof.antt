@@ -1,8 +1,8 @@
 -- `repaint` meets its contract: the tracks on which the records get no more, then all.
 use mathlib.Core.Bool.{false}
-use Rattle.cell_painting.specs.Passes.{Swept}
-use Rattle.cell_painting.proofs.Bits.{lt16-back, good-back}
-use Rattle.cell_painting.proofs.Swept.{roomy-back, swept-plain}
+use Rattle.track_pieces.specs.Passes.{Swept}
+use Rattle.track_pieces.proofs.Bits.{lt16-back, good-back}
+use Rattle.track_sweeps.proofs.Swept.{roomy-back, swept-plain}
 use Rattle.cell_painting.proofs.Whole.{Asked, tracks, good, ready-one, roomy-one, ready-two, roomy-two, done}
 use borrow.Author.Needs.{needs}
 use Rattle.cell_painting.proofs.repaint.Statement.{statement}

@@ -13,7 +13,7 @@ use lib.ListN.{length, take, drop, length-take}
 use Rattle.walk.specs.Request.{Request, checked}
 use Rattle.walk.proofs.Checks.{Passed, checked-none}
 use Rattle.request.specs.Items.{requestOf}
-use Rattle.placement.specs.Ready.{Items}
+use Rattle.laying.specs.Ready.{Items}
 use Rattle.placement.specs.Placing.{byColumns}
 use Rattle.placement.proofs.Outcomes.{passed-items, run-by-columns, run-by-rows}
 use Rattle.placement.proofs.checked.place_checked.Statement.{statement}

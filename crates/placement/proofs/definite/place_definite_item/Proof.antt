@@ -11,8 +11,8 @@ use Rattle.walk.specs.Axis.{Axis, Both, on}
 use Rattle.walk.specs.Walk.{Board, step1}
 use Rattle.walk.specs.Request.{itemOf}
 use Rattle.request.specs.Items.{itemAt}
-use Rattle.placement.specs.Ready.{settingFor, primaryOf, secondaryOf}
-use Rattle.placement.proofs.Lays.{primary-holds, secondary-holds, sound-primary, sound-secondary, laying-long, passed, other-axis}
+use Rattle.laying.specs.Ready.{settingFor, primaryOf, secondaryOf}
+use Rattle.laying.proofs.Lays.{primary-holds, secondary-holds, sound-primary, sound-secondary, laying-long, passed, other-axis}
 use Rattle.placement.proofs.Step1.{pass-primary, pass-secondary, step1-laid}
 use Rattle.placement.proofs.definite.place_definite_item.Statement.{statement}
 use Rattle.placement.proofs.definite.place_definite_item.Tie as tie

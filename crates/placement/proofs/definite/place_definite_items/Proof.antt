@@ -5,8 +5,8 @@ use mathlib.Core.Bool.{false}
 use Prim.Native.Nat.{ℕ, _+_, _-_, _/_, _≤_}
 use native.Mathlib.Omega.{arith}
 use lib.ListN.{length}
-use Rattle.placement.specs.Ready.{Items}
-use Rattle.placement.proofs.Lays.{Lengths, items-upto}
+use Rattle.laying.specs.Ready.{Items}
+use Rattle.laying.proofs.Lays.{Lengths, items-upto}
 use Rattle.placement.proofs.Step1.{Going, going-none, going-on, going-stops, going-done}
 use Rattle.placement.proofs.definite.place_definite_items.Statement.{statement}
 use Rattle.placement.proofs.definite.place_definite_items.Tie as tie

@@ -7,7 +7,7 @@ use lib.IntN.{pos}
 use lib.ListN.{length, replicate}
 use Rattle.walk.specs.Axis.{laid}
 use Rattle.request.specs.Items.{axisOf}
-use Rattle.placement.specs.Ready.{Ready, AfterStep}
+use Rattle.laying.specs.Ready.{Ready, AfterStep}
 use Rattle.placement.specs.Runs.{emptyBoard, runFor}
 use Rattle.placement.proofs.Runs.{ready-empty, no-ends-empty, run-done, run-refused}
 use Rattle.placement.proofs.run.place_items.Statement.{statement}

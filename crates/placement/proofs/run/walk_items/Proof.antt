@@ -9,10 +9,10 @@ use Rattle.walk.specs.Axis.{Both}
 use Rattle.walk.specs.Walk.{Board, step1, step2, each, walk, last4, begin4}
 use Rattle.request.specs.Items.{axisOf}
 use Rattle.request.proofs.Items.{queued}
-use Rattle.placement.specs.Ready.{settingFor, Ready}
-use Rattle.placement.specs.Ends.{NoEnds}
-use Rattle.placement.proofs.Lays.{answers-length, primary-length, secondary-length}
-use Rattle.placement.proofs.Step2.{no-ends}
+use Rattle.laying.specs.Ready.{settingFor, Ready}
+use Rattle.step_secondary.specs.Ends.{NoEnds}
+use Rattle.laying.proofs.Lays.{answers-length, primary-length, secondary-length}
+use Rattle.step_secondary.proofs.Step2.{no-ends}
 use Rattle.placement.proofs.Runs.{Went, step-done, step-refused, ends-walk, same-run, walk-stop1, walk-stop2, walk-last}
 use Rattle.placement.proofs.run.walk_items.Statement.{statement}
 use Rattle.placement.proofs.run.walk_items.Tie as tie

@@ -1,0 +1,2 @@
+// The step for the items that are left.
+pub mod rest;

@@ -1,0 +1,2 @@
+// Tracks painted in place.
+pub mod in_place;

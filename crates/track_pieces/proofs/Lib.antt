@@ -1,0 +1,4 @@
+pub mod Bits
+pub mod Build
+pub mod Found
+pub mod Above

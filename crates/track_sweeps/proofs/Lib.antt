@@ -1,0 +1,4 @@
+pub mod Count
+pub mod Moves
+pub mod Sweep
+pub mod Swept

@@ -1,0 +1,2 @@
+// Tracks painted one behind the other, by a sweep over the records behind them.
+pub mod sweeps;
