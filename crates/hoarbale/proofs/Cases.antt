@@ -20,8 +20,8 @@ use Rattle.walk.specs.Request.{halves, goodHalf, badFrom, itemOf, lengthGood, c
 use Rattle.request.specs.Items.{requestOf}
 use Rattle.placement.specs.Placing.{placingOf}
 use Rattle.hoarbale.specs.Placing.{placingNumber, placingIndex, placingColumns, placingRows}
-use Rattle.hoarbale.specs.Lines.{originZeroAnswer, zeroNumber, zeroLine}
-use Rattle.hoarbale.specs.Lists.{checkedOf, paintAnswer, paintLeft, paintNumber, collisionAnswer, jumpNumber, jumpFound, jumpLine}
+use Rattle.line_calls.specs.Lines.{originZeroAnswer, zeroNumber, zeroLine}
+use Rattle.list_calls.specs.Lists.{checkedOf, paintAnswer, paintLeft, paintNumber, collisionAnswer, jumpNumber, jumpFound, jumpLine}
 use Rattle.hoarbale.specs.Series.{series}
 
 pub record Row : Type 0 where

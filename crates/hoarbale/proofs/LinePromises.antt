@@ -15,10 +15,10 @@ use Rattle.grid_track_counts.specs.declared.TrackCounts.{TrackCounts}
 use Rattle.grid_track_counts.specs.declared.TrackVecIndex.{TrackVecIndex}
 use Rattle.grid_track_counts.specs.declared.TrackVecIndex.the-variants.{At, Absent}
 use Rattle.grid_track_counts.specs.Counts.{countsGood, indexOf}
-use Rattle.hoarbale.specs.Lines.{originZeroAnswer, zeroNumber, cssAnswer, cssNumber, indexAnswer, indexNumber, placeAnswer}
-use Rattle.hoarbale.specs.declared.lines.OriginZeroAnswer.the-variants as Zero
-use Rattle.hoarbale.specs.declared.lines.CssAnswer.the-variants as Css
-use Rattle.hoarbale.specs.declared.lines.IndexAnswer.the-variants as Index
+use Rattle.line_calls.specs.Lines.{originZeroAnswer, zeroNumber, cssAnswer, cssNumber, indexAnswer, indexNumber, placeAnswer}
+use Rattle.line_calls.specs.declared.lines.OriginZeroAnswer.the-variants as Zero
+use Rattle.line_calls.specs.declared.lines.CssAnswer.the-variants as Css
+use Rattle.line_calls.specs.declared.lines.IndexAnswer.the-variants as Index
 
 -- 0 is not 11, nor 3
 zero-not : {n : ℕ} → 0 ≡ n → 0 < n → ⊥

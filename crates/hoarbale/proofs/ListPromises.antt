@@ -18,13 +18,13 @@ use Rattle.cell_occupancy.specs.declared.jumps.Jump.the-variants as J
 use Rattle.cell_occupancy.specs.Calls.{collisionJump, occupiedJump}
 use Rattle.cell_occupancy.specs.Meaning.{Collides, IsClear, LastTrack}
 use Rattle.cell_occupancy.proofs.Promises as Occ
-use Rattle.hoarbale.specs.Lists.{checkedOf, paintAnswer, paintLeft, paintNumber, jumpAnswer, collisionOf, collisionAnswer, occupiedOf, occupiedAnswer, jumpNumber, jumpFound, jumpLine}
+use Rattle.list_calls.specs.Lists.{checkedOf, paintAnswer, paintLeft, paintNumber, jumpAnswer, collisionOf, collisionAnswer, occupiedOf, occupiedAnswer, jumpNumber, jumpFound, jumpLine}
 use Rattle.hoarbale.specs.Series.{series, accepted, noted, overCell, Fits, Why, length-wrong, rules-broken, area-bad, no-room, is-room}
-use Rattle.hoarbale.specs.declared.lists.Checked.the-variants as C
-use Rattle.hoarbale.specs.declared.lists.PaintAnswer.{PaintAnswer}
-use Rattle.hoarbale.specs.declared.lists.PaintAnswer.the-variants as P
-use Rattle.hoarbale.specs.declared.lists.JumpAnswer.{JumpAnswer}
-use Rattle.hoarbale.specs.declared.lists.JumpAnswer.the-variants as A
+use Rattle.list_calls.specs.declared.lists.Checked.the-variants as C
+use Rattle.list_calls.specs.declared.lists.PaintAnswer.{PaintAnswer}
+use Rattle.list_calls.specs.declared.lists.PaintAnswer.the-variants as P
+use Rattle.list_calls.specs.declared.lists.JumpAnswer.{JumpAnswer}
+use Rattle.list_calls.specs.declared.lists.JumpAnswer.the-variants as A
 use Rattle.hoarbale.proofs.Outcome as O
 use Rattle.hoarbale.proofs.Outcome.{Is, why, because, left-of, same-cells, of-kept}
 

@@ -18,11 +18,11 @@ use Rattle.intervals.proofs.Flat as Fl
 use Rattle.intervals.proofs.OverInt.{digit-laws, paintList-cell, unique, flat-canonical}
 use Rattle.intervals.proofs.Limits.{paintList-rules}
 use Rattle.intervals.proofs.Lists.{flat-holds, flat-recs, empty-holds, holds-kept, holds-decode, holds-room, kept-holds}
-use Rattle.hoarbale.specs.Lists.{checkedOf, room, paintOf, paintAnswer, leftBy, paintLeft}
+use Rattle.list_calls.specs.Lists.{checkedOf, room, paintOf, paintAnswer, leftBy, paintLeft}
 use Rattle.hoarbale.specs.Series.{paintAll, noted, acceptedOn, overCell, Fits, Why, length-wrong, rules-broken, area-bad, no-room, is-room}
-use Rattle.hoarbale.specs.declared.lists.Checked.the-variants as C
-use Rattle.hoarbale.specs.declared.lists.PaintAnswer.{PaintAnswer}
-use Rattle.hoarbale.specs.declared.lists.PaintAnswer.the-variants as P
+use Rattle.list_calls.specs.declared.lists.Checked.the-variants as C
+use Rattle.list_calls.specs.declared.lists.PaintAnswer.{PaintAnswer}
+use Rattle.list_calls.specs.declared.lists.PaintAnswer.the-variants as P
 
 -- ---- the answer by four tests
 

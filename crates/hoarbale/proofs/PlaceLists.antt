@@ -19,9 +19,9 @@ use Rattle.walk.proofs.FreeLaws.{Tiled}
 use Rattle.walk.proofs.WalkLaws.{Roomy, anyone, walk-keeps}
 use Rattle.walk.proofs.Cells.{history, history-good, Coloured, records-hold}
 use Rattle.hoarbale.specs.Calls.{LengthRight, areas}
-use Rattle.hoarbale.specs.Lists.{paintAnswer}
+use Rattle.list_calls.specs.Lists.{paintAnswer}
 use Rattle.hoarbale.specs.Series.{series, accepted, is-room}
-use Rattle.hoarbale.specs.declared.lists.PaintAnswer.the-variants as P
+use Rattle.list_calls.specs.declared.lists.PaintAnswer.the-variants as P
 use Rattle.hoarbale.proofs.Outcome.{because, left-of, all-snoc, length-good}
 use Rattle.hoarbale.proofs.ListPromises.{rules-hold, painted-counts}
 

@@ -1,5 +1,3 @@
-pub mod Lines
-pub mod Lists
 pub mod Series
 pub mod Placing
 pub mod Calls

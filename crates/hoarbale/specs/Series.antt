@@ -9,9 +9,9 @@ use lib.Signed.{ltZ}
 use Rattle.intervals.specs.Records.{Area, area, between}
 use Rattle.intervals.specs.OverInt.{cellOf, decode, paintList}
 use Rattle.intervals.specs.Lists.{kept, goodLength, goodArea}
-use Rattle.hoarbale.specs.Lists.{paintAnswer, paintLeft}
-use Rattle.hoarbale.specs.declared.lists.PaintAnswer.{PaintAnswer}
-use Rattle.hoarbale.specs.declared.lists.PaintAnswer.the-variants as P
+use Rattle.list_calls.specs.Lists.{paintAnswer, paintLeft}
+use Rattle.list_calls.specs.declared.lists.PaintAnswer.{PaintAnswer}
+use Rattle.list_calls.specs.declared.lists.PaintAnswer.the-variants as P
 
 -- the list l after a series of areas, oldest first
 abbrev pub paintAll : List ℤ → List (Area ℤ) → List ℤ

@@ -2,10 +2,10 @@
 ghost use mathlib.Core.Path.{_≡_};
 ghost use Rattle.list_tracks.specs.Tracks.{recordsOfTrack, named, Stands};
 ghost use Rattle.cell_painting.specs.Painting.{areaOf};
-ghost use Rattle.hoarbale.specs.Lists.{paintAnswer, paintLeft, paintNumber, collisionAnswer, occupiedAnswer};
+ghost use Rattle.list_calls.specs.Lists.{paintAnswer, paintLeft, paintNumber, collisionAnswer, occupiedAnswer};
 ghost use Rattle.hoarbale_c.specs.Lists.{ofJump};
-use hoarbale::lists::JumpAnswer;
-use hoarbale::lists::PaintAnswer;
+use list_calls::lists::JumpAnswer;
+use list_calls::lists::PaintAnswer;
 
 #[repr(C)]
 pub struct NextLine {
@@ -33,7 +33,7 @@ pub extern "C" fn hoarbale_paint(
     ensures { λ r. ⌜ r ≡ paintNumber (paintAnswer (now (list .entry)) (areaOf «track_start» «track_end» start end state)) ⌝ }
     ensures { λ _. ⌜ now (list .exit) ≡ paintLeft (now (list .entry)) (areaOf «track_start» «track_end» start end state) ⌝ }
 {
-    let answer = hoarbale::lists::paint(list, track_start, track_end, start, end, state);
+    let answer = list_calls::lists::paint(list, track_start, track_end, start, end, state);
     match answer {
         PaintAnswer::Painted => 0,
         PaintAnswer::Refused(number) => number,
@@ -72,7 +72,7 @@ pub extern "C" fn hoarbale_collision_jump(
 ) -> NextLine
     ensures { λ r. ⌜ r ≡ ofJump (collisionAnswer (now (list .entry)) «track_start» «track_end» start end) ⌝ }
 {
-    told(hoarbale::lists::collision_jump(list, track_start, track_end, start, end))
+    told(list_calls::lists::collision_jump(list, track_start, track_end, start, end))
 }
 
 #[no_mangle]
@@ -83,7 +83,7 @@ pub extern "C" fn hoarbale_occupied_track_jump(
 ) -> NextLine
     ensures { λ r. ⌜ r ≡ ofJump (occupiedAnswer (now (list .entry)) «track_start» «track_end») ⌝ }
 {
-    told(hoarbale::lists::occupied_track_jump(list, track_start, track_end))
+    told(list_calls::lists::occupied_track_jump(list, track_start, track_end))
 }
 
 // Where the part stands that `records_of_track` gives; at 0 where it is empty.

@@ -1,6 +1,6 @@
 // Each call with a name and what it gave, on a line.
-use hoarbale::lists::JumpAnswer;
-use hoarbale::lists::PaintAnswer;
+use list_calls::lists::JumpAnswer;
+use list_calls::lists::PaintAnswer;
 
 fn magnitude(n: i16) -> u64 {
     let w = n as i32;
@@ -59,7 +59,7 @@ pub fn paint(
     end: i16,
     state: i16,
 ) {
-    let answer = hoarbale::lists::paint(list, track_start, track_end, start, end, state);
+    let answer = list_calls::lists::paint(list, track_start, track_end, start, end, state);
     io::write_all(1, name);
     tell_paint(answer);
     io::write_all(1, b";");
@@ -68,21 +68,21 @@ pub fn paint(
 }
 
 pub fn jump(name: &[u8], list: &[i16], track_start: i16, track_end: i16, start: i16, end: i16) {
-    let answer = hoarbale::lists::collision_jump(list, track_start, track_end, start, end);
+    let answer = list_calls::lists::collision_jump(list, track_start, track_end, start, end);
     io::write_all(1, name);
     tell_jump(answer);
     io::write_all(1, b"\n");
 }
 
 pub fn occupied(name: &[u8], list: &[i16], track_start: i16, track_end: i16) {
-    let answer = hoarbale::lists::occupied_track_jump(list, track_start, track_end);
+    let answer = list_calls::lists::occupied_track_jump(list, track_start, track_end);
     io::write_all(1, name);
     tell_jump(answer);
     io::write_all(1, b"\n");
 }
 
 pub fn part<'a>(name: &[u8], rows: &'a [i16], columns: &'a [i16], axis: u8, track: i16) {
-    let records = hoarbale::lists::records_of_track(rows, columns, axis, track);
+    let records = list_calls::lists::records_of_track(rows, columns, axis, track);
     io::write_all(1, name);
     tell_all(records);
     io::write_all(1, b"\n");
@@ -98,7 +98,7 @@ pub fn damaged(name: &[u8], list: &mut [i16]) {
 
 // The answer only.
 fn paint_one(name: &[u8], list: &mut [i16]) {
-    let answer = hoarbale::lists::paint(list, 0, 1, 0, 2, 1);
+    let answer = list_calls::lists::paint(list, 0, 1, 0, 2, 1);
     io::write_all(1, name);
     tell_paint(answer);
     io::write_all(1, b"\n");

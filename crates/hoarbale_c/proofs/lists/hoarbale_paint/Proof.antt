@@ -6,7 +6,7 @@ use lib.IntN.{ℤ}
 use mir.Facts.{toZ-ofZ}
 use Rattle.intervals.specs.Records.{Area}
 use Rattle.cell_painting.specs.Painting.{areaOf}
-use Rattle.hoarbale.specs.Lists.{paintAnswer, paintLeft, paintNumber}
+use Rattle.list_calls.specs.Lists.{paintAnswer, paintLeft, paintNumber}
 use Rattle.hoarbale_c.proofs.lists.hoarbale_paint.Statement.{statement}
 use Rattle.hoarbale_c.proofs.lists.hoarbale_paint.Tie as tie
 

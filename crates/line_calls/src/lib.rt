@@ -1,0 +1,2 @@
+// Line conversions, and a line's place in the track vector: calls of the door.
+pub mod lines;

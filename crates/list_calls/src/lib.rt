@@ -1,0 +1,2 @@
+// Calls of the door on one list.
+pub mod lists;
