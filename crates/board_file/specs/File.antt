@@ -1,5 +1,6 @@
 -- The file. "Length first: 4 bytes, big-endian, of all that follows; one version byte, 1; flow byte; six 16-bit counts (columns first); 16-bit item count;
 -- items, 12 bytes each, all big-endian. Counts and item count are unsigned, item numbers signed. The length is 16 + 12n."
+use mathlib.Core.Path.{_≡_}
 use mathlib.Core.Bool.{Bool, cond, _&&_}
 use mathlib.Core.List.{List, [], _∷_, _++_}
 use mathlib.Core.Option.{Option, none, some}
@@ -12,6 +13,7 @@ use mir.Val.{ofZ}
 use Rattle.grid_track_counts.specs.declared.TrackCounts.{TrackCounts}
 use Rattle.walk.specs.Request.{Request, Outcome, refused, outcome, answersLeft, rowsLeft, columnsLeft}
 use Rattle.request.specs.Items.{requestOf}
+use Rattle.placement.specs.Placing.{placingOf}
 use Rattle.placement.specs.declared.checked.Placing.{Placing}
 use Rattle.placement.specs.declared.checked.Placing.the-variants as P
 use Rattle.board_file.specs.declared.header.Head.{Head}
@@ -115,3 +117,11 @@ fileColumnsLeft bs a c r old = cond (goodFile bs) (columnsLeft (requestIn bs a c
 -- the buffer for item numbers holds those of a good file of at most 2000 items, and then what it held
 unfoldable pub fileItemsLeft : List ℕ → List ℤ → List ℤ
 fileItemsLeft bs old = cond (goodFile bs && leb (wordAt bs 18) 2000) (itemsIn bs ++ drop (6 * wordAt bs 18) old) old
+
+-- what a file's placement gives and leaves: the answer, and the buffers' numbers of before and of after
+pub record FilePlaced (bs : List ℕ) (is zs rs cs : List ℤ) (r : FileAnswer) (is₂ zs₂ rs₂ cs₂ : List ℤ) : Type 0 where
+  pub told : r ≡ answerOf (wordAt bs 18) (placingOf (fileOutcome bs (length zs) (length cs) (length rs)))
+  pub items : is₂ ≡ fileItemsLeft bs is
+  pub answers : zs₂ ≡ fileAnswersLeft bs (length zs) (length cs) (length rs) zs
+  pub rows : rs₂ ≡ fileRowsLeft bs (length zs) (length cs) (length rs) rs
+  pub columns : cs₂ ≡ fileColumnsLeft bs (length zs) (length cs) (length rs) cs

@@ -4,7 +4,7 @@ ghost use mathlib.Core.Bool.{true};
 ghost use Prim.Native.Nat.{_≤_};
 ghost use lib.ListN.{length};
 ghost use Rattle.placement.specs.Placing.{placingOf};
-ghost use Rattle.board_file.specs.File.{wordAt, goodFile, headOf, answerOf, fileOutcome, fileAnswersLeft, fileRowsLeft, fileColumnsLeft, fileItemsLeft};
+ghost use Rattle.board_file.specs.File.{goodFile, FilePlaced, headOf, answerOf, fileOutcome, fileAnswersLeft, fileRowsLeft, fileColumnsLeft, fileItemsLeft};
 use crate::header::FileHeader;
 use crate::header::Head;
 use crate::header::read_header;
@@ -78,11 +78,7 @@ pub fn place_file(
     row_list: &mut [i16],
     column_list: &mut [i16],
 ) -> FileAnswer
-    ensures { λ r. ⌜ r ≡ answerOf (wordAt (now (bytes .entry)) 18) (placingOf (fileOutcome (now (bytes .entry)) (length (now (answers .entry))) (length (now («column_list» .entry))) (length (now («row_list» .entry))))) ⌝ }
-    ensures { λ _. ⌜ now (items .exit) ≡ fileItemsLeft (now (bytes .entry)) (now (items .entry)) ⌝ }
-    ensures { λ _. ⌜ now (answers .exit) ≡ fileAnswersLeft (now (bytes .entry)) (length (now (answers .entry))) (length (now («column_list» .entry))) (length (now («row_list» .entry))) (now (answers .entry)) ⌝ }
-    ensures { λ _. ⌜ now («row_list» .exit) ≡ fileRowsLeft (now (bytes .entry)) (length (now (answers .entry))) (length (now («column_list» .entry))) (length (now («row_list» .entry))) (now («row_list» .entry)) ⌝ }
-    ensures { λ _. ⌜ now («column_list» .exit) ≡ fileColumnsLeft (now (bytes .entry)) (length (now (answers .entry))) (length (now («column_list» .entry))) (length (now («row_list» .entry))) (now («column_list» .entry)) ⌝ }
+    ensures { λ r. ⌜ FilePlaced (now (bytes .entry)) (now (items .entry)) (now (answers .entry)) (now («row_list» .entry)) (now («column_list» .entry)) r (now (items .exit)) (now (answers .exit)) (now («row_list» .exit)) (now («column_list» .exit)) ⌝ }
 {
     let header = read_header(bytes);
     match header {

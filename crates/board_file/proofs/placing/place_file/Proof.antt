@@ -30,7 +30,8 @@ returns c =
     let k = c .before .before in
     let s = k .before .before in
     let g = header-refused (s .args .bytes .now) (sym (c .enum-told .given .1) ∙ k .read-header .ensures) in
-    no-file (s .args .bytes .now) (length (s .args .answers .now)) (length (s .args .column-list .now)) (length (s .args .row-list .now)) _ _ _ _ _ g
+    let q = no-file (s .args .bytes .now) (length (s .args .answers .now)) (length (s .args .column-list .now)) (length (s .args .row-list .now)) (wordAt (s .args .bytes .now) 18) (s .args .items .now) (s .args .answers .now) (s .args .row-list .now) (s .args .column-list .now) g in
+    record { told = q .0; items = q .1 .0; answers = q .1 .1 .0; rows = q .1 .1 .1 .0; columns = q .1 .1 .1 .1 }
 
 same-length : tie.Need-same-length
 same-length c = search needs
@@ -50,7 +51,14 @@ returns-2 c =
     let bs = s .args .bytes .now in
     let g = header-good bs _ (sym (h .header .given .1) ∙ k .read-header .ensures) in
     let o = fileOutcome bs (length (s .args .answers .now)) (length (s .args .column-list .now)) (length (s .args .row-list .now)) in
-    (p .place-good .ensures .0 ∙ ap (λ (n : ℕ). answerOf n (placingOf o)) (head-count bs _ (g .1)), p .place-good .ensures .1)
+    let q = p .place-good .ensures in
+    record {
+      told = q .0 ∙ ap (λ (n : ℕ). answerOf n (placingOf o)) (head-count bs _ (g .1));
+      items = q .1 .0;
+      answers = q .1 .1 .0;
+      rows = q .1 .1 .1 .0;
+      columns = q .1 .1 .1 .1;
+    }
 
 pub place-file-spec : {M : Type 1} → statement M
 place-file-spec =
