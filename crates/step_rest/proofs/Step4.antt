@@ -44,36 +44,10 @@ use Rattle.step_rest.specs.declared.rest.Turn.{Turn}
 use Rattle.step_rest.specs.declared.rest.Turn.the-variants.{On, Short}
 use Rattle.laying.specs.Laying.{Laying}
 use Rattle.laying.specs.Ready.{settingFor, Ready, AfterItem, AfterStep, Items, primaryOf, secondaryOf}
-use Rattle.step_rest.specs.Cursor.{placeOf, startOn, lineOn, pairOn, turnOf, AfterTurn}
+use Rattle.rest_choice.specs.Cursor.{placeOf, startOn, lineOn, pairOn}
+use Rattle.step_rest.specs.Turns.{turnOf, AfterTurn}
+use Rattle.rest_choice.proofs.Near.{Near, start-near, line-near}
 use Rattle.laying.proofs.Lays.{put-laid, primary-recs, secondary-recs}
-
--- ---- how far the lines go, by the cursor alone
-
--- a line at which a secondary search starts or ends: a span added to it fits 16 bits
-pub record Near (z : ℤ) : Type 0 where
-  pub low : negsuc 9999 ≤ℤ z
-  pub high : z ≤ℤ pos 12000
-
-near-cond : (t : Bool) (a b : ℤ) → Near a → Near b → Near (cond t a b)
-near-cond true a b f g = f
-near-cond false a b f g = g
-
-pub start-near : (dense : Bool) (q : Pair) (c : TrackCounts) (a : ℤ) → Sound c → CursorIn 1999 (placeOf q) → Near (startOn dense q c a)
-start-near dense q c a s h =
-    let l = start-low c s in
-    let u = start-high c in
-    let g : Near (gridStart c) = record { low = l; high = omega signed } in
-    let x : Near (q .secondary +ℤ pos 1) = record { low = omega signed; high = omega signed } in
-    let y : Near (q .secondary) = record { low = omega signed; high = omega signed } in
-    near-cond dense (gridStart c) (cond (ltZ a (q .primary)) (q .secondary +ℤ pos 1) (q .secondary)) g (near-cond (ltZ a (q .primary)) (q .secondary +ℤ pos 1) (q .secondary) x y)
-
-pub line-near : (rs : List (Rec ℤ)) → rules rs ≡ true → (p : Lines) (n : ℕ) (z : ℤ) → Near z → Near (firstLine (λ y. clear rs p (from y n)) z)
-line-near rs h p n z k =
-    let ok : ℤ → Bool = λ y. clear rs p (from y n) in
-    let beyond : (y : ℤ) → pos 10000 ≤ℤ y → ok y ≡ true = λ y v. clear-lines-beyond rs h p (from y n) v in
-    let a = firstLine-first ok beyond z .since in
-    let b = firstLine-high ok beyond z (pos 12000) (k .high) (omega signed) in
-    record { low = omega signed; high = b }
 
 -- ---- what a good item's placement is
 

@@ -12,7 +12,7 @@ use Rattle.walk.proofs.Range.{Good}
 use Rattle.request.specs.Items.{axisOf, itemAt}
 use Rattle.request.proofs.Items.{good-placement}
 use Rattle.laying.specs.Ready.{settingFor, primaryOf, secondaryOf}
-use Rattle.step_rest.specs.Cursor.{placeOf, spanOf}
+use Rattle.rest_choice.specs.Cursor.{placeOf, spanOf}
 use Rattle.laying.proofs.Lays.{other-axis}
 use Rattle.step_rest.proofs.Step4.{stays, pass-fixed, by-line, by-pair}
 use Rattle.step_rest.proofs.rest.place_indefinitely_positioned_item.Statement.{statement}

@@ -9,7 +9,7 @@ use Rattle.signed.proofs.Laws.{signed, fit16}
 use Rattle.walk.specs.Axis.{from}
 use Rattle.walk.specs.Walk.{overwide}
 use Rattle.searching.specs.declared.Pair.{Pair}
-use Rattle.step_rest.specs.Cursor.{placeOf}
+use Rattle.rest_choice.specs.Cursor.{placeOf}
 use Rattle.laying.proofs.Lays.{primary-holds, secondary-holds, sound-primary, sound-secondary}
 use Rattle.step_rest.proofs.Step4.{span-in, mark-good, with-cursor, pair-inside, pair-fits, pair-laid}
 use Rattle.step_rest.proofs.rest.place_on_pair.Statement.{statement}

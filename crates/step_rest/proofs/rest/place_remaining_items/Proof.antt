@@ -11,7 +11,7 @@ use Rattle.signed.proofs.Laws.{fit16}
 use Rattle.grid_track_counts.specs.Counts.{gridStart}
 use Rattle.walk.specs.Search.{at}
 use Rattle.searching.specs.declared.Pair.{Pair}
-use Rattle.step_rest.specs.Cursor.{placeOf}
+use Rattle.rest_choice.specs.Cursor.{placeOf}
 use Rattle.laying.proofs.Lays.{Lengths, sound-primary, sound-secondary, items-upto}
 use Rattle.step_rest.proofs.Step4.{Going, once-is-near, near-all, going-none, going-on, going-stops, going-done}
 use Rattle.step_rest.proofs.rest.place_remaining_items.Statement.{statement}

@@ -2,7 +2,7 @@
 use borrow.Author.Needs.{needs}
 use mathlib.Core.Path.{sym, ap}
 use Rattle.laying.specs.declared.Laid.{Laid}
-use Rattle.step_rest.specs.Cursor.{turnOf}
+use Rattle.step_rest.specs.Turns.{turnOf}
 use Rattle.step_rest.proofs.rest.turned.Statement.{statement}
 use Rattle.step_rest.proofs.rest.turned.Tie as tie
 

@@ -1,8 +1,8 @@
 -- `next_cursor` meets its contract.
 use mir.Facts.{toZ-ofZ}
 use Rattle.signed.proofs.Laws.{fit16}
-use Rattle.step_rest.proofs.rest.next_cursor.Statement.{statement}
-use Rattle.step_rest.proofs.rest.next_cursor.Tie as tie
+use Rattle.rest_choice.proofs.choice.next_cursor.Statement.{statement}
+use Rattle.rest_choice.proofs.choice.next_cursor.Tie as tie
 
 returns : tie.Need-returns
 returns c = rw (c .if1 .taken)

@@ -16,9 +16,9 @@ use Rattle.walk.specs.Search.{at, firstPair, placesTo}
 use Rattle.walk.specs.Walk.{overwide}
 use Rattle.walk.proofs.LinesLaws.{start-low, start-high, end-high}
 use Rattle.searching.specs.Clear.{clear}
-use Rattle.step_rest.specs.Cursor.{untestedLine}
-use Rattle.step_rest.proofs.rest.settle_pair.Statement.{statement}
-use Rattle.step_rest.proofs.rest.settle_pair.Tie as tie
+use Rattle.rest_choice.specs.Cursor.{untestedLine}
+use Rattle.rest_choice.proofs.choice.settle_pair.Statement.{statement}
+use Rattle.rest_choice.proofs.choice.settle_pair.Tie as tie
 
 implicit-start-line-requires : tie.Need-implicit-start-line-requires
 implicit-start-line-requires c κs = search needs

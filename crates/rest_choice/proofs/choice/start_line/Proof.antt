@@ -3,8 +3,8 @@ use borrow.Author.Needs.{needs}
 use mathlib.Core.Path.{_∙_}
 use mir.Facts.{toZ-ofZ}
 use Rattle.signed.proofs.Laws.{signed, fit16}
-use Rattle.step_rest.proofs.rest.start_line.Statement.{statement}
-use Rattle.step_rest.proofs.rest.start_line.Tie as tie
+use Rattle.rest_choice.proofs.choice.start_line.Statement.{statement}
+use Rattle.rest_choice.proofs.choice.start_line.Tie as tie
 
 implicit-start-line-requires : tie.Need-implicit-start-line-requires
 implicit-start-line-requires c κs = search needs

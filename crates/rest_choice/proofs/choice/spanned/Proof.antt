@@ -7,8 +7,8 @@ use mir.Val.{toZ, ofZ}
 use mir.Facts.{toZ-ofZ}
 use Rattle.signed.proofs.Laws.{signed, rng, sum}
 use Rattle.coordinates.specs.Line.{lines}
-use Rattle.step_rest.proofs.rest.spanned.Statement.{statement}
-use Rattle.step_rest.proofs.rest.spanned.Tie as tie
+use Rattle.rest_choice.proofs.choice.spanned.Statement.{statement}
+use Rattle.rest_choice.proofs.choice.spanned.Tie as tie
 
 cast-n : tie.Need-cast-n
 cast-n c = search needs

@@ -5,8 +5,8 @@ use mir.Syntax.{w16}
 use mir.Facts.{toZ-ofZ}
 use Rattle.signed.specs.Parts.{eqZ}
 use Rattle.signed.proofs.Laws.{signed, fit16, same, differ, eq-no}
-use Rattle.step_rest.proofs.rest.untested_line.Statement.{statement}
-use Rattle.step_rest.proofs.rest.untested_line.Tie as tie
+use Rattle.rest_choice.proofs.choice.untested_line.Statement.{statement}
+use Rattle.rest_choice.proofs.choice.untested_line.Tie as tie
 
 returns : tie.Need-returns
 returns c =

@@ -10,10 +10,10 @@ use Rattle.intervals.specs.Lists.{recs}
 use Rattle.walk.specs.Axis.{from}
 use Rattle.walk.specs.Search.{firstLine}
 use Rattle.searching.specs.Clear.{clear}
-use Rattle.step_rest.specs.Cursor.{startOn}
-use Rattle.step_rest.proofs.Step4.{Near, start-near, line-near}
-use Rattle.step_rest.proofs.rest.settle_line.Statement.{statement}
-use Rattle.step_rest.proofs.rest.settle_line.Tie as tie
+use Rattle.rest_choice.specs.Cursor.{startOn}
+use Rattle.rest_choice.proofs.Near.{Near, start-near, line-near}
+use Rattle.rest_choice.proofs.choice.settle_line.Statement.{statement}
+use Rattle.rest_choice.proofs.choice.settle_line.Tie as tie
 
 start-line-requires : tie.Need-start-line-requires
 start-line-requires c κs = search needs

@@ -1,6 +1,5 @@
 -- Step 4's cursor, and what step 4 settles for an item, by the cursor, the counts and the records of one list: no board appears in these words. What
 -- one item of step 4 leaves of the lists and the counts is said with a board, as for the other steps, and the cursor beside it.
-use mathlib.Core.Path.{_≡_}
 use mathlib.Core.Bool.{Bool, cond}
 use mathlib.Core.List.{List}
 use Prim.Native.Nat.{ℕ}
@@ -11,19 +10,13 @@ use Rattle.intervals.specs.Records.{Rec}
 use Rattle.coordinates.specs.declared.Lines.{Lines}
 use Rattle.grid_track_counts.specs.declared.TrackCounts.{TrackCounts}
 use Rattle.grid_track_counts.specs.Counts.{gridStart, gridEnd}
-use Rattle.walk.specs.Axis.{Both, from}
+use Rattle.walk.specs.Axis.{from}
 use Rattle.walk.specs.Search.{firstLine, firstPair, placesTo, Place, at}
-use Rattle.walk.specs.Walk.{Run, going, stopped, overwide}
+use Rattle.walk.specs.Walk.{overwide}
 use Rattle.walk.specs.declared.Placement.{Placement}
 use Rattle.walk.specs.declared.Placement.the-variants.{Fixed, Spanned}
 use Rattle.searching.specs.Clear.{clear}
 use Rattle.searching.specs.declared.Pair.{Pair}
-use Rattle.laying.specs.declared.Matrix.{Matrix}
-use Rattle.laying.specs.declared.Laid.{Laid}
-use Rattle.laying.specs.declared.Laid.the-variants as L
-use Rattle.step_rest.specs.declared.rest.Turn.{Turn}
-use Rattle.step_rest.specs.declared.rest.Turn.the-variants as T
-use Rattle.laying.specs.Ready.{Ready, Stopped}
 
 -- the program's pair of lines as a place of the walk
 abbrev pub placeOf : Pair → Place
@@ -57,16 +50,3 @@ foundOn q c n m rs = firstPair (placesTo (gridEnd c) n) (gridStart c) (λ y x. c
 
 abbrev pub pairOn : Pair → TrackCounts → ℕ → ℕ → List (Rec ℤ) → Place
 pairOn q c n m rs = cond (overwide n c) (at (gridStart c) (untestedLine q (gridStart c))) (foundOn q c n m rs)
-
--- ---- after an item
-
--- what laying a tile came to, and the cursor that goes with it
-abbrev pub turnOf : Laid → Pair → Turn
-turnOf (L.On m) q = T.On m q
-turnOf (L.Short n) q = T.Short n
-
--- after the item i: the walk goes on with a board that the program's lists stand for and with the program's cursor, or stops there with a list's number
-abbrev pub AfterTurn : Bool → Both ℕ → List ℤ → ℕ → Run → Turn → List ℤ → List ℤ → List ℤ → Type 0
-AfterTurn columns room old i (going b) r answers primary secondary =
-    (m : Matrix) × ((q : Pair) × ((r ≡ T.On m q) × (Ready columns room old b m answers primary secondary × (b .cursor ≡ placeOf q))))
-AfterTurn columns room old i (stopped n j) r answers primary secondary = (r ≡ T.Short n) × ((j ≡ i) × Stopped columns room old answers primary secondary)
