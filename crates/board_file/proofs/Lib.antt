@@ -1,4 +1,1 @@
-pub mod Words
-pub mod Signs
 pub mod Judged
-pub mod Promises

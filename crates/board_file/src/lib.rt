@@ -1,5 +1,2 @@
-// The file of a board, read and placed.
-pub mod bytes;
-pub mod header;
-pub mod items;
+// A file placed.
 pub mod placing;

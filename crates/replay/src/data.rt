@@ -1,4 +1,4 @@
-use board_file::bytes::word;
+use file_bytes::bytes::word;
 
 // The data's number k, of two bytes, the high one first. A number past the end is 0.
 pub fn number(data: &[u8], k: usize) -> u16 {

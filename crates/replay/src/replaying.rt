@@ -2,7 +2,7 @@
 ghost use Prim.Native.Nat.{_+_, _*_, _<_, _≤_};
 ghost use lib.ListN.{length};
 use crate::data::number;
-use board_file::bytes::signed;
+use file_bytes::bytes::signed;
 use grid_track_counts::TrackCounts;
 use placement::checked::Placing;
 

@@ -3,8 +3,10 @@ use mathlib.Core.Path.{sym, ap, _∙_}
 use Prim.Native.Nat.{ℕ}
 use lib.ListN.{length}
 use Rattle.placement.specs.Placing.{placingOf}
-use Rattle.board_file.specs.File.{wordAt, fileOutcome, answerOf}
-use Rattle.board_file.proofs.Judged.{header-refused, header-good, head-count, no-file}
+use Rattle.file_bytes.specs.File.{wordAt}
+use Rattle.board_file.specs.File.{fileOutcome, answerOf}
+use Rattle.file_bytes.proofs.Judged.{header-refused, header-good, head-count}
+use Rattle.board_file.proofs.Judged.{no-file}
 use borrow.Author.Needs.{needs}
 use Rattle.board_file.proofs.placing.place_file.Statement.{statement}
 use Rattle.board_file.proofs.placing.place_file.Tie as tie

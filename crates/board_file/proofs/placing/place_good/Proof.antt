@@ -3,8 +3,9 @@ use mathlib.Core.Path.{sym, ap, _∙_}
 use Prim.Native.Nat.{_*_}
 use native.Mathlib.Omega.{arith}
 use lib.ListN.{length}
-use Rattle.board_file.proofs.Words.{part-length}
-use Rattle.board_file.proofs.Judged.{good-length, head-count, head-flow, same-request, flow-refused, count-refused, many-refused, read-whole, read-left, door}
+use Rattle.file_bytes.proofs.Words.{part-length}
+use Rattle.file_bytes.proofs.Judged.{good-length, head-count, head-flow}
+use Rattle.board_file.proofs.Judged.{same-request, flow-refused, count-refused, many-refused, read-whole, read-left, door}
 use borrow.Author.Needs.{needs}
 use Rattle.board_file.proofs.placing.place_good.Statement.{statement}
 use Rattle.board_file.proofs.placing.place_good.Tie as tie

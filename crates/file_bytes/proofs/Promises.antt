@@ -15,9 +15,9 @@ use mir.Syntax.{w16}
 use mir.Val.{SFits, ofZ}
 use Rattle.signed.proofs.Laws.{signed}
 use Rattle.grid_track_counts.specs.declared.TrackCounts.{TrackCounts}
-use Rattle.board_file.specs.File.{wordAt, lengthTold, signedOf, numbers, countsAt, itemsIn, goodFile, Contents, readOf, put, putCounts, putNumbers, fileOf}
-use Rattle.board_file.proofs.Words.{numbers-behind}
-use Rattle.board_file.proofs.Judged.{agrees, good-length, good-told, good-version}
+use Rattle.file_bytes.specs.File.{wordAt, lengthTold, signedOf, numbers, countsAt, itemsIn, goodFile, Contents, readOf, put, putCounts, putNumbers, fileOf}
+use Rattle.file_bytes.proofs.Words.{numbers-behind}
+use Rattle.file_bytes.proofs.Judged.{agrees, good-length, good-told, good-version}
 
 -- "Counts and item count are unsigned, item numbers signed", of 16 bits; six numbers an item
 pub record Counts16 (c : TrackCounts) : Type 0 where

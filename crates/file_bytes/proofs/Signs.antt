@@ -8,7 +8,7 @@ use mir.Syntax.{w16, w32}
 use mir.Val.{SFits, toZ, ofZ}
 use mir.ValLaws.{toZ-pos, toZ-ofZ}
 use Rattle.signed.proofs.Laws.{signed}
-use Rattle.board_file.specs.File.{signedOf}
+use Rattle.file_bytes.specs.File.{signedOf}
 
 pub low : (n : ℕ) → n < 32768 → toZ w16 n ≡ signedOf n
 unfolding signedOf

@@ -1,8 +1,8 @@
 -- `counts` meets its contract.
-use Rattle.board_file.specs.File.{countsAt}
+use Rattle.file_bytes.specs.File.{countsAt}
 use borrow.Author.Needs.{needs}
-use Rattle.board_file.proofs.header.counts.Statement.{statement}
-use Rattle.board_file.proofs.header.counts.Tie as tie
+use Rattle.file_bytes.proofs.header.counts.Statement.{statement}
+use Rattle.file_bytes.proofs.header.counts.Tie as tie
 
 word-requires : tie.Need-word-requires
 word-requires c κs = search needs

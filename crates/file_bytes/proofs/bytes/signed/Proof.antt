@@ -1,9 +1,9 @@
 -- `signed` meets its contract.
 use native.Mathlib.Omega.{arith}
-use Rattle.board_file.proofs.Signs.{low, high-32, high-16, high}
+use Rattle.file_bytes.proofs.Signs.{low, high-32, high-16, high}
 use borrow.Author.Needs.{needs}
-use Rattle.board_file.proofs.bytes.signed.Statement.{statement}
-use Rattle.board_file.proofs.bytes.signed.Tie as tie
+use Rattle.file_bytes.proofs.bytes.signed.Statement.{statement}
+use Rattle.file_bytes.proofs.bytes.signed.Tie as tie
 
 cast-result : tie.Need-cast-result
 cast-result c = search needs

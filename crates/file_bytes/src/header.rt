@@ -2,7 +2,7 @@
 ghost use mathlib.Core.Path.{_≡_};
 ghost use Prim.Native.Nat.{_+_, _≤_, _<_};
 ghost use lib.ListN.{length};
-ghost use Rattle.board_file.specs.File.{lengthTold, countsAt, headerOf};
+ghost use Rattle.file_bytes.specs.File.{lengthTold, countsAt, headerOf};
 use crate::bytes::word;
 use grid_track_counts::TrackCounts;
 

@@ -1,9 +1,9 @@
 -- `length_told` meets its contract.
 use native.Mathlib.Omega.{arith}
-use Rattle.board_file.specs.File.{lengthTold}
+use Rattle.file_bytes.specs.File.{lengthTold}
 use borrow.Author.Needs.{needs}
-use Rattle.board_file.proofs.header.length_told.Statement.{statement}
-use Rattle.board_file.proofs.header.length_told.Tie as tie
+use Rattle.file_bytes.proofs.header.length_told.Statement.{statement}
+use Rattle.file_bytes.proofs.header.length_told.Tie as tie
 
 word-requires : tie.Need-word-requires
 word-requires c κs = search needs

@@ -2,7 +2,7 @@
 ghost use mathlib.Core.Path.{_≡_};
 ghost use Prim.Native.Nat.{suc, _<_};
 ghost use lib.ListN.{length};
-ghost use Rattle.board_file.specs.File.{wordAt, signedOf};
+ghost use Rattle.file_bytes.specs.File.{wordAt, signedOf};
 
 fn wide(b: u8) -> u16
     ensures { λ r. ⌜ r ≡ b ⌝ }

@@ -5,7 +5,7 @@ use Prim.Native.Nat.{ℕ, zero, suc, _+_, _*_, _≤_, _<_}
 use native.Mathlib.Omega.{arith}
 use lib.IntN.{ℤ}
 use lib.ListN.{length, getD, set, drop, take}
-use Rattle.board_file.specs.File.{wordAt, signedOf, numbers}
+use Rattle.file_bytes.specs.File.{wordAt, signedOf, numbers}
 
 pub length-numbers : (bs : List ℕ) (i n : ℕ) → length (numbers bs i n) ≡ n
 unfolding numbers

@@ -8,11 +8,11 @@ use lib.ListN.{length, set, drop, length-set}
 use native.Mathlib.Numerals.{add-one}
 use mir.Syntax.{w16}
 use mir.ValLaws.{toZ-ofZ}
-use Rattle.board_file.specs.File.{wordAt, signedOf, numbers}
-use Rattle.board_file.proofs.Words.{numbers-none, store-next}
+use Rattle.file_bytes.specs.File.{wordAt, signedOf, numbers}
+use Rattle.file_bytes.proofs.Words.{numbers-none, store-next}
 use borrow.Author.Needs.{needs}
-use Rattle.board_file.proofs.items.read_items.Statement.{statement}
-use Rattle.board_file.proofs.items.read_items.Tie as tie
+use Rattle.file_bytes.proofs.items.read_items.Statement.{statement}
+use Rattle.file_bytes.proofs.items.read_items.Tie as tie
 
 abbrev Inv-loop : tie.InvT-loop
 Inv-loop bytes items₀ n i₀ items i = (i ≤ n) × ((length items ≡ length items₀) × (items ≡ numbers bytes 20 i ++ drop i items₀))

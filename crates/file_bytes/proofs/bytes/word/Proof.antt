@@ -4,10 +4,10 @@ use Prim.Native.Nat.{ℕ}
 use native.Mathlib.Omega.{arith}
 use native.Mathlib.Numerals.{add-one}
 use lib.ListN.{getD}
-use Rattle.board_file.specs.File.{wordAt}
+use Rattle.file_bytes.specs.File.{wordAt}
 use borrow.Author.Needs.{needs}
-use Rattle.board_file.proofs.bytes.word.Statement.{statement}
-use Rattle.board_file.proofs.bytes.word.Tie as tie
+use Rattle.file_bytes.proofs.bytes.word.Statement.{statement}
+use Rattle.file_bytes.proofs.bytes.word.Tie as tie
 
 shared-slice-read-wide : tie.Need-shared-slice-read-wide
 shared-slice-read-wide c = search needs

@@ -3,7 +3,7 @@ ghost use mathlib.Core.Path.{_≡_};
 ghost use mathlib.Core.List.{_++_};
 ghost use Prim.Native.Nat.{_+_, _*_, _≤_};
 ghost use lib.ListN.{length, drop};
-ghost use Rattle.board_file.specs.File.{numbers};
+ghost use Rattle.file_bytes.specs.File.{numbers};
 use crate::bytes::signed;
 use crate::bytes::word;
 

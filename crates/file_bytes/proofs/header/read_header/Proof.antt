@@ -3,11 +3,11 @@ use mathlib.Core.Path.{sym, ap, _∙_}
 use native.Mathlib.Omega.{arith}
 use Prim.Native.Nat.{_+_, _*_}
 use lib.ListN.{getD}
-use Rattle.board_file.specs.File.{headOf}
-use Rattle.board_file.proofs.Judged.{short, other-length, other-count, other-version, agrees, accepted}
+use Rattle.file_bytes.specs.File.{headOf}
+use Rattle.file_bytes.proofs.Judged.{short, other-length, other-count, other-version, agrees, accepted}
 use borrow.Author.Needs.{needs}
-use Rattle.board_file.proofs.header.read_header.Statement.{statement}
-use Rattle.board_file.proofs.header.read_header.Tie as tie
+use Rattle.file_bytes.proofs.header.read_header.Statement.{statement}
+use Rattle.file_bytes.proofs.header.read_header.Tie as tie
 
 returns : tie.Need-returns
 returns c = short _ (c .if1 .taken)

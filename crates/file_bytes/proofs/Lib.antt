@@ -1,0 +1,4 @@
+pub mod Signs
+pub mod Words
+pub mod Judged
+pub mod Promises
