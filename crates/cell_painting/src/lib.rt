@@ -13,11 +13,11 @@ ghost use lib.IntN.{pos};
 ghost use Rattle.intervals.specs.OverInt.{fit, flat, paintList};
 ghost use Rattle.intervals.specs.Lists.{recs, Holds};
 ghost use Rattle.cell_painting.specs.Painting.{areaOf};
+use flat_records::wipe;
 use track_in_place::in_place::paint_tracks;
 use track_pieces::pieces::cut_track;
 use track_pieces::reach::records_behind;
 use track_sweeps::sweeps::sweep;
-use flat_records::wipe;
 
 // How many records there are once the area is painted. Tracks are gone through from the last to the first, and records likewise.
 pub fn count_painted(

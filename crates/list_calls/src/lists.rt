@@ -5,8 +5,8 @@ ghost use Rattle.intervals.specs.Lists.{goodArea};
 ghost use Rattle.cell_painting.specs.Painting.{areaOf};
 ghost use Rattle.list_calls.specs.Lists.{checkedOf, paintAnswer, paintLeft, jumpAnswer, collisionAnswer, occupiedAnswer};
 use cell_occupancy::jumps::Jump;
-use list_rules::rules::Used;
 use cell_painting::Painted;
+use list_rules::rules::Used;
 
 // How many records a list holds, or why it is not taken.
 pub enum Checked {

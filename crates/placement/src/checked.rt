@@ -5,9 +5,9 @@ ghost use lib.ListN.{length};
 ghost use Rattle.walk.specs.Request.{checked, outcome, answersLeft, rowsLeft, columnsLeft};
 ghost use Rattle.request.specs.Items.{requestOf};
 ghost use Rattle.placement.specs.Placing.{placingOf, byColumns};
-use laying::Stepped;
 use crate::run::place_items;
 use grid_track_counts::TrackCounts;
+use laying::Stepped;
 
 // The final counts of columns and rows, or the number of the list that is too short and the item's index.
 pub enum Placing {

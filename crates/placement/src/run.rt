@@ -11,13 +11,13 @@ ghost use Rattle.request.proofs.Items.{queued};
 ghost use Rattle.laying.specs.Ready.{settingFor, Ready, AfterStep, Items};
 ghost use Rattle.step_secondary.specs.Ends.{NoEnds, StandsFresh};
 ghost use Rattle.placement.specs.Runs.{AfterRun};
-use laying::Matrix;
-use laying::Stepped;
 use crate::definite::place_definite_items;
-use step_rest::rest::place_remaining_items;
-use step_secondary::secondary::place_definite_secondary_axis_items;
 use cell_painting::clear;
 use grid_track_counts::TrackCounts;
+use laying::Matrix;
+use laying::Stepped;
+use step_rest::rest::place_remaining_items;
+use step_secondary::secondary::place_definite_secondary_axis_items;
 
 // The steps 1, 2 and 4. (Step 3 is the caller's: its counts stand for it.)
 fn walk_items(

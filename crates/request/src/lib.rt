@@ -9,8 +9,8 @@ ghost use mir.Val.{SFits};
 ghost use Rattle.walk.specs.Axis.{on};
 ghost use Rattle.walk.specs.Request.{half, halves, goodHalf, goodItem, badFrom, placingOf, itemOf};
 ghost use Rattle.request.specs.Items.{numberAt, itemAt, firstBadOf, axisOf};
-use list_rules::rules::number;
 use coordinates::Lines;
+use list_rules::rules::number;
 use walk::Placement;
 
 pub mod checks;

@@ -11,9 +11,9 @@ ghost use Rattle.searching.specs.Clear.{clear, wholeGrid, Inside};
 use cell_occupancy::jumps::Jump;
 use cell_occupancy::jumps::collision_between;
 use cell_occupancy::jumps::occupied_track_jump;
+use coordinates::Lines;
 use list_tracks::tracks::lower;
 use list_tracks::tracks::lower_ahead;
-use coordinates::Lines;
 
 // The first line from `start` on at which a span lies clear of the records over the tracks. Each line is tried against the same
 // records, so where they stand is found once.

@@ -12,19 +12,19 @@ ghost use Rattle.request.proofs.Items.{queued};
 ghost use Rattle.laying.specs.Ready.{settingFor, Ready, Stands, AfterStep, Items, primaryOf, secondaryOf};
 ghost use Rattle.rest_choice.specs.Cursor.{placeOf};
 ghost use Rattle.step_rest.specs.Turns.{turnOf, AfterTurn};
+use coordinates::Lines;
 use laying::Laid;
 use laying::Matrix;
 use laying::Stepped;
 use laying::lay::lay;
-use coordinates::Lines;
 use request::placement_on;
-use searching::Pair;
-use walk::Placement;
-use rest_choice::choice::span_of;
-use rest_choice::choice::spanned;
+use rest_choice::choice::next_cursor;
 use rest_choice::choice::settle_line;
 use rest_choice::choice::settle_pair;
-use rest_choice::choice::next_cursor;
+use rest_choice::choice::span_of;
+use rest_choice::choice::spanned;
+use searching::Pair;
+use walk::Placement;
 
 // What became of one item: the board as it is now and the cursor after the item, or the number of the list that is too short.
 pub enum Turn {

@@ -14,15 +14,15 @@ ghost use Rattle.intervals.proofs.Split.{Late};
 ghost use Rattle.flat_records.specs.Fours.{fours, Laid};
 ghost use Rattle.track_pieces.specs.Reach.{runs};
 ghost use Rattle.track_pieces.specs.Passes.{Good, Gapped, InPlace, Ready, Swept, Tail};
+use flat_records::move_down;
+use flat_records::put_four;
+use flat_records::put_in;
+use flat_records::wipe;
 use track_pieces::pieces::cut_track;
 use track_pieces::pieces::joined;
 use track_pieces::reach::after_early;
 use track_pieces::reach::before_late;
 use track_sweeps::sweeps::lift;
-use flat_records::move_down;
-use flat_records::put_four;
-use flat_records::put_in;
-use flat_records::wipe;
 
 // How many records there are, and how many of them are before the painted track.
 struct Count {

@@ -14,11 +14,11 @@ ghost use lib.Dec.{leb};
 ghost use lib.Seq.{paste};
 ghost use Rattle.intervals.proofs.Split.{Late};
 ghost use Rattle.track_pieces.specs.Passes.{Good, Gapped, Stepped, stepped, held, Ready, Roomy, Swept, Tail};
-use track_pieces::pieces::cut_track;
 use flat_records::move_down;
 use flat_records::move_up;
 use flat_records::put_in;
 use flat_records::wipe;
+use track_pieces::pieces::cut_track;
 
 // Whether a sweep paints a track on which k records become n.
 fn wanted(all: bool, n: usize, k: usize) -> bool
