@@ -1,5 +1,5 @@
 // One file from standard input to its end, placed, and the answer on standard output.
-use board_file::placing::place_file;
+use board_file::place_file;
 
 fn run(
     input: &mut [u8],

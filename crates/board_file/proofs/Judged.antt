@@ -9,19 +9,19 @@ use borrow.Author.Tests.{leb-true, eqb-true, lt-ltb, le-ltb, lt-leb, le-leb, eq-
 use lib.Dec.{eqb, leb, ltb}
 use lib.IntN.{ℤ}
 use lib.ListN.{length, getD, take, drop}
-use Rattle.intervals.proofs.Grid.{and-l, and-r, and-i}
-use Rattle.walk.specs.Request.{Request, Refusal, Outcome, checked, outcome, answersLeft, rowsLeft, columnsLeft, no}
-use Rattle.walk.proofs.Promises.{checks-refuse, refusal-unchanged}
-use Rattle.request.specs.Items.{requestOf}
-use Rattle.placement.specs.declared.checked.Placing.{Placing}
-use Rattle.placement.specs.Placing.{placingOf}
-use Rattle.file_bytes.specs.declared.header.Head.{Head}
-use Rattle.file_bytes.specs.declared.header.FileHeader.the-variants as H
-use Rattle.board_file.specs.declared.placing.FileAnswer.the-variants as A
-use Rattle.file_bytes.specs.File.{wordAt, lengthTold, numbers, countsAt, headOf, itemsIn, goodFile, headerOf}
+use Rattle.theory_intervals.proofs.Grid.{and-l, and-r, and-i}
+use Rattle.theory_walk.specs.Request.{Request, Refusal, Outcome, checked, outcome, answersLeft, rowsLeft, columnsLeft, no}
+use Rattle.theory_walk.proofs.Promises.{checks-refuse, refusal-unchanged}
+use Rattle.placing_request.specs.Items.{requestOf}
+use Rattle.placing_run.specs.declared.checked.Placing.{Placing}
+use Rattle.placing_run.specs.Placing.{placingOf}
+use Rattle.board_bytes.specs.declared.header.Head.{Head}
+use Rattle.board_bytes.specs.declared.header.FileHeader.the-variants as H
+use Rattle.board_file.specs.declared.FileAnswer.the-variants as A
+use Rattle.board_bytes.specs.File.{wordAt, lengthTold, numbers, countsAt, headOf, itemsIn, goodFile, headerOf}
 use Rattle.board_file.specs.File.{requestIn, fileOutcome, answerOf, fileAnswersLeft, fileRowsLeft, fileColumnsLeft, fileItemsLeft}
-use Rattle.file_bytes.proofs.Judged.{head-count}
-use Rattle.file_bytes.proofs.Words.{length-numbers, take-numbers}
+use Rattle.board_bytes.proofs.Judged.{head-count}
+use Rattle.board_bytes.proofs.Words.{length-numbers, take-numbers}
 
 module _ (bs : List ℕ) where
   -- ---- the request of a good file

@@ -6,14 +6,14 @@ use Prim.Native.Nat.{ℕ, _*_}
 use lib.Dec.{leb}
 use lib.IntN.{ℤ}
 use lib.ListN.{length, getD, drop}
-use Rattle.walk.specs.Request.{Request, Outcome, refused, outcome, answersLeft, rowsLeft, columnsLeft}
-use Rattle.request.specs.Items.{requestOf}
-use Rattle.placement.specs.Placing.{placingOf}
-use Rattle.placement.specs.declared.checked.Placing.{Placing}
-use Rattle.placement.specs.declared.checked.Placing.the-variants as P
-use Rattle.file_bytes.specs.File.{wordAt, countsAt, itemsIn, goodFile}
-use Rattle.board_file.specs.declared.placing.FileAnswer.{FileAnswer}
-use Rattle.board_file.specs.declared.placing.FileAnswer.the-variants as A
+use Rattle.theory_walk.specs.Request.{Request, Outcome, refused, outcome, answersLeft, rowsLeft, columnsLeft}
+use Rattle.placing_request.specs.Items.{requestOf}
+use Rattle.placing_run.specs.Placing.{placingOf}
+use Rattle.placing_run.specs.declared.checked.Placing.{Placing}
+use Rattle.placing_run.specs.declared.checked.Placing.the-variants as P
+use Rattle.board_bytes.specs.File.{wordAt, countsAt, itemsIn, goodFile}
+use Rattle.board_file.specs.declared.FileAnswer.{FileAnswer}
+use Rattle.board_file.specs.declared.FileAnswer.the-variants as A
 
 -- ---- "Refusal 12 is judged before 1 to 6"
 

@@ -1,5 +1,5 @@
 // An answer as text, on standard output.
-use board_file::placing::FileAnswer;
+use board_file::FileAnswer;
 use grid_track_counts::TrackCounts;
 
 fn magnitude(n: i16) -> u64 {

@@ -7,9 +7,9 @@ use borrow.Author.Tests.{leb-true}
 use lib.Dec.{T, leb}
 use lib.IntN.{ℤ, pos, _+ℤ_, natAbs}
 use lib.Signed.{_≤ℤ_, _<ℤ_}
-use Rattle.signed.proofs.Laws.{signed, neg, apart, by-test, g-lt-true, g-lt-false}
-use Rattle.coordinates.specs.declared.Lines.{Lines}
-use Rattle.coordinates.specs.Line.{Limited}
+use Rattle.theory_signed.proofs.Laws.{signed, neg, apart, by-test, g-lt-true, g-lt-false}
+use Rattle.grid_coordinates.specs.declared.Lines.{Lines}
+use Rattle.grid_coordinates.specs.Line.{Limited}
 use Rattle.grid_track_counts.specs.declared.TrackCounts.{TrackCounts}
 use Rattle.grid_track_counts.specs.declared.TrackVecIndex.the-variants.{At, Absent}
 use Rattle.grid_track_counts.specs.Counts.{countsGood, Sound, gridStart, gridEnd, Covers, Grows, grown, indexOf}

@@ -5,8 +5,8 @@ use Prim.Native.Nat.{ℕ, _+_, _-_, _*_, _≤_, max}
 use lib.Dec.{leb}
 use lib.IntN.{ℤ, pos, negℤ, natAbs, _+ℤ_}
 use lib.Signed.{ltZ, _≤ℤ_}
-use Rattle.signed.specs.Parts.{up, dn}
-use Rattle.coordinates.specs.declared.Lines.{Lines}
+use Rattle.theory_signed.specs.Parts.{up, dn}
+use Rattle.grid_coordinates.specs.declared.Lines.{Lines}
 use Rattle.grid_track_counts.specs.declared.TrackCounts.{TrackCounts}
 use Rattle.grid_track_counts.specs.declared.TrackVecIndex.{TrackVecIndex}
 use Rattle.grid_track_counts.specs.declared.TrackVecIndex.the-variants.{At, Absent}

@@ -1,10 +1,10 @@
 // How many tracks an axis has: before the explicit grid, in it, and behind it.
 ghost use mathlib.Core.Path.{_≡_};
 ghost use Prim.Native.Nat.{ℕ, _+_, max};
-ghost use Rattle.coordinates.specs.Line.{Limited};
+ghost use Rattle.grid_coordinates.specs.Line.{Limited};
 ghost use Rattle.grid_track_counts.specs.Counts.{Sound, countsGood, gridStart, gridEnd, grown, indexOf};
-use coordinates::Lines;
-use coordinates::OriginZeroLine;
+use grid_coordinates::Lines;
+use grid_coordinates::OriginZeroLine;
 
 pub struct TrackCounts {
     pub negative: u16,

@@ -2,10 +2,10 @@
 use mathlib.Core.Path.{_≡_}
 use lib.IntN.{ℤ}
 use Prim.Native.Nat.{ℕ}
-use Rattle.line_calls.specs.declared.lines.OriginZeroAnswer.{OriginZeroAnswer}
-use Rattle.line_calls.specs.declared.lines.CssAnswer.{CssAnswer}
-use Rattle.line_calls.specs.declared.lines.IndexAnswer.{IndexAnswer}
-use Rattle.line_calls.specs.Lines.{zeroNumber, zeroLine, cssNumber, cssLine, indexNumber, indexPresent, indexPlace}
+use Rattle.hoarbale_lines.specs.declared.OriginZeroAnswer.{OriginZeroAnswer}
+use Rattle.hoarbale_lines.specs.declared.CssAnswer.{CssAnswer}
+use Rattle.hoarbale_lines.specs.declared.IndexAnswer.{IndexAnswer}
+use Rattle.hoarbale_lines.specs.Lines.{zeroNumber, zeroLine, cssNumber, cssLine, indexNumber, indexPresent, indexPlace}
 use Rattle.hoarbale_c.specs.declared.lines.LineAnswer.{LineAnswer}
 use Rattle.hoarbale_c.specs.declared.lines.PlaceInVector.{PlaceInVector}
 

@@ -1,6 +1,6 @@
 -- The answers of the list calls as structs of numbers.
-use Rattle.list_calls.specs.declared.lists.JumpAnswer.{JumpAnswer}
-use Rattle.list_calls.specs.Lists.{jumpNumber, jumpFound, jumpLine}
+use Rattle.hoarbale_lists.specs.declared.JumpAnswer.{JumpAnswer}
+use Rattle.hoarbale_lists.specs.Lists.{jumpNumber, jumpFound, jumpLine}
 use Rattle.hoarbale_c.specs.declared.lists.NextLine.{NextLine}
 
 abbrev pub ofJump : JumpAnswer → NextLine

@@ -1,7 +1,7 @@
 -- The placement call's counts and answer as structs of numbers.
 use Rattle.grid_track_counts.specs.declared.TrackCounts.{TrackCounts}
-use Rattle.placement.specs.declared.checked.Placing.{Placing}
-use Rattle.hoarbale.specs.Placing.{placingNumber, placingIndex, placingColumns, placingRows}
+use Rattle.placing_run.specs.declared.checked.Placing.{Placing}
+use Rattle.hoarbale_placing.specs.Placing.{placingNumber, placingIndex, placingColumns, placingRows}
 use Rattle.hoarbale_c.specs.declared.placing.Counts.{Counts}
 use Rattle.hoarbale_c.specs.declared.placing.PlaceAnswer.{PlaceAnswer}
 

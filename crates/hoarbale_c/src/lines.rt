@@ -1,13 +1,13 @@
 // Line conversions, and a line's place in the track vector.
 ghost use mathlib.Core.Path.{_≡_};
-ghost use Rattle.line_calls.specs.Lines.{originZeroAnswer, cssAnswer, indexAnswer};
+ghost use Rattle.hoarbale_lines.specs.Lines.{originZeroAnswer, cssAnswer, indexAnswer};
 ghost use Rattle.hoarbale_c.specs.Lines.{ofZero, ofCss, ofIndex};
-use coordinates::GridLine;
-use coordinates::OriginZeroLine;
+use grid_coordinates::GridLine;
+use grid_coordinates::OriginZeroLine;
 use grid_track_counts::TrackCounts;
-use line_calls::lines::CssAnswer;
-use line_calls::lines::IndexAnswer;
-use line_calls::lines::OriginZeroAnswer;
+use hoarbale_lines::CssAnswer;
+use hoarbale_lines::IndexAnswer;
+use hoarbale_lines::OriginZeroAnswer;
 
 #[repr(C)]
 pub struct LineAnswer {
@@ -26,7 +26,7 @@ pub struct PlaceInVector {
 pub extern "C" fn hoarbale_origin_zero_line(css_line: i16, explicit: u16) -> LineAnswer
     ensures { λ r. ⌜ r ≡ ofZero (originZeroAnswer «css_line» explicit) ⌝ }
 {
-    let answer = line_calls::lines::origin_zero_line(GridLine(css_line), explicit);
+    let answer = hoarbale_lines::origin_zero_line(GridLine(css_line), explicit);
     match answer {
         OriginZeroAnswer::Line(found) => LineAnswer {
             number: 0,
@@ -40,7 +40,7 @@ pub extern "C" fn hoarbale_origin_zero_line(css_line: i16, explicit: u16) -> Lin
 pub extern "C" fn hoarbale_css_line(line: i16, explicit: u16) -> LineAnswer
     ensures { λ r. ⌜ r ≡ ofCss (cssAnswer line explicit) ⌝ }
 {
-    let answer = line_calls::lines::css_line(OriginZeroLine(line), explicit);
+    let answer = hoarbale_lines::css_line(OriginZeroLine(line), explicit);
     match answer {
         CssAnswer::Line(found) => LineAnswer {
             number: 0,
@@ -64,7 +64,7 @@ pub extern "C" fn hoarbale_track_index(
         explicit,
         positive,
     };
-    let answer = line_calls::lines::track_index(counts, OriginZeroLine(line));
+    let answer = hoarbale_lines::track_index(counts, OriginZeroLine(line));
     match answer {
         IndexAnswer::At(index) => PlaceInVector {
             number: 0,

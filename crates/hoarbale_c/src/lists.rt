@@ -1,11 +1,11 @@
 // Calls on one list. A returned part of a list becomes its start and its length.
 ghost use mathlib.Core.Path.{_≡_};
 ghost use Rattle.list_tracks.specs.Tracks.{recordsOfTrack, named, Stands};
-ghost use Rattle.cell_painting.specs.Painting.{areaOf};
-ghost use Rattle.list_calls.specs.Lists.{paintAnswer, paintLeft, paintNumber, collisionAnswer, occupiedAnswer};
+ghost use Rattle.list_painting.specs.Painting.{areaOf};
+ghost use Rattle.hoarbale_lists.specs.Lists.{paintAnswer, paintLeft, paintNumber, collisionAnswer, occupiedAnswer};
 ghost use Rattle.hoarbale_c.specs.Lists.{ofJump};
-use list_calls::lists::JumpAnswer;
-use list_calls::lists::PaintAnswer;
+use hoarbale_lists::JumpAnswer;
+use hoarbale_lists::PaintAnswer;
 
 #[repr(C)]
 pub struct NextLine {
@@ -33,7 +33,7 @@ pub extern "C" fn hoarbale_paint(
     ensures { λ r. ⌜ r ≡ paintNumber (paintAnswer (now (list .entry)) (areaOf «track_start» «track_end» start end state)) ⌝ }
     ensures { λ _. ⌜ now (list .exit) ≡ paintLeft (now (list .entry)) (areaOf «track_start» «track_end» start end state) ⌝ }
 {
-    let answer = list_calls::lists::paint(list, track_start, track_end, start, end, state);
+    let answer = hoarbale_lists::paint(list, track_start, track_end, start, end, state);
     match answer {
         PaintAnswer::Painted => 0,
         PaintAnswer::Refused(number) => number,
@@ -72,7 +72,7 @@ pub extern "C" fn hoarbale_collision_jump(
 ) -> NextLine
     ensures { λ r. ⌜ r ≡ ofJump (collisionAnswer (now (list .entry)) «track_start» «track_end» start end) ⌝ }
 {
-    told(list_calls::lists::collision_jump(list, track_start, track_end, start, end))
+    told(hoarbale_lists::collision_jump(list, track_start, track_end, start, end))
 }
 
 #[no_mangle]
@@ -83,7 +83,7 @@ pub extern "C" fn hoarbale_occupied_track_jump(
 ) -> NextLine
     ensures { λ r. ⌜ r ≡ ofJump (occupiedAnswer (now (list .entry)) «track_start» «track_end») ⌝ }
 {
-    told(list_calls::lists::occupied_track_jump(list, track_start, track_end))
+    told(hoarbale_lists::occupied_track_jump(list, track_start, track_end))
 }
 
 // Where the part stands that `records_of_track` gives; at 0 where it is empty.
@@ -96,7 +96,7 @@ pub extern "C" fn hoarbale_records_of_track(
 ) -> PartOfList
     ensures { λ r. ⌜ Stands (named (now (rows .entry)) (now (columns .entry)) axis) track (recordsOfTrack (now (rows .entry)) (now (columns .entry)) axis track) (r .start) (r .length) ⌝ }
 {
-    let place = list_tracks::tracks::track_place(rows, columns, axis, track);
+    let place = list_tracks::track_place(rows, columns, axis, track);
     PartOfList {
         start: place.start,
         length: place.length,

@@ -1,12 +1,12 @@
 // The placement call.
 ghost use mathlib.Core.Path.{_≡_};
 ghost use lib.ListN.{length};
-ghost use Rattle.walk.specs.Request.{outcome, answersLeft, rowsLeft, columnsLeft};
-ghost use Rattle.request.specs.Items.{requestOf};
-ghost use Rattle.placement.specs.Placing.{placingOf};
+ghost use Rattle.theory_walk.specs.Request.{outcome, answersLeft, rowsLeft, columnsLeft};
+ghost use Rattle.placing_request.specs.Items.{requestOf};
+ghost use Rattle.placing_run.specs.Placing.{placingOf};
 ghost use Rattle.hoarbale_c.specs.Placing.{toTracks, ofTracks, ofPlacing};
 use grid_track_counts::TrackCounts;
-use placement::checked::Placing;
+use placing_run::checked::Placing;
 
 #[repr(C)]
 pub struct Counts {
@@ -87,7 +87,7 @@ pub extern "C" fn hoarbale_place(
 {
     let column_counts = to_tracks(columns);
     let row_counts = to_tracks(rows);
-    let placing = hoarbale::placing::place(
+    let placing = hoarbale_placing::place(
         flow,
         column_counts,
         row_counts,

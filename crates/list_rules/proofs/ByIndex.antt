@@ -11,19 +11,19 @@ use lib.IntN.{ℤ, pos, negsuc, natAbs}
 use lib.Signed.{ltZ, nonNeg, _≤ℤ_}
 use borrow.Author.Tests.{eqb-true, eqb-false, eq-eqb, ltb-true, ltb-false}
 use native.Mathlib.Decide.{decLt}
-use Rattle.signed.proofs.Laws.{signed, by-test, g-lt-true}
-use Rattle.intervals.proofs.Line.{Test, yea, nay, test, no-both}
-use Rattle.intervals.specs.Records.{Rec, rec, same}
-use Rattle.intervals.proofs.Grid.{and-l, and-r, and-i}
-use Rattle.intervals.specs.OverInt.{encode, ok, keeps, decode, flat, isFlat, digits, isZero}
-use Rattle.intervals.proofs.Flat.{length-encode}
-use Rattle.intervals.proofs.Index.{ruled-keeps, keeps-ruled, counted}
-use Rattle.intervals.proofs.OverInt.{digit-laws}
-use Rattle.intervals.specs.Lists.{inGrid, allIn, rules, recs, Holds, used, kept}
-use Rattle.intervals.proofs.Lists.{is-in, in-is, all-in, in-all, length-recs, recs-enc, kept-holds}
+use Rattle.theory_signed.proofs.Laws.{signed, by-test, g-lt-true}
+use Rattle.theory_intervals.proofs.Line.{Test, yea, nay, test, no-both}
+use Rattle.theory_intervals.specs.Records.{Rec, rec, same}
+use Rattle.theory_intervals.proofs.Grid.{and-l, and-r, and-i}
+use Rattle.theory_intervals.specs.OverInt.{encode, ok, keeps, decode, flat, isFlat, digits, isZero}
+use Rattle.theory_intervals.proofs.Flat.{length-encode}
+use Rattle.theory_intervals.proofs.Index.{ruled-keeps, keeps-ruled, counted}
+use Rattle.theory_intervals.proofs.OverInt.{digit-laws}
+use Rattle.theory_intervals.specs.Lists.{inGrid, allIn, rules, recs, Holds, used, kept}
+use Rattle.theory_intervals.proofs.Lists.{is-in, in-is, all-in, in-all, length-recs, recs-enc, kept-holds}
 use Rattle.list_rules.specs.Kept.{keptOf}
 use Rattle.list_rules.specs.Inner.{trackNo, startNo, endNo, stateNo, Good, mayFollow, Goes, Front, Zeros}
-use Rattle.list_rules.specs.declared.rules.Used.the-variants.{Records, Broken}
+use Rattle.list_rules.specs.declared.Used.the-variants.{Records, Broken}
 
 -- ---- one record
 

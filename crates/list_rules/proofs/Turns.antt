@@ -8,7 +8,7 @@ use lib.ListN.{length, getD}
 use lib.IntN.{ℤ, pos}
 use native.Mathlib.Decide.{ℕ-discrete}
 use borrow.Author.Count.{below-more}
-use Rattle.intervals.proofs.Line.{no-both}
+use Rattle.theory_intervals.proofs.Line.{no-both}
 use Rattle.list_rules.specs.Inner.{GoodAt, followAt, Says, Goes, Front}
 
 pub zero-more : (l : List ℤ) (from i : ℕ) → ((j : ℕ) → from ≤ j → j < i → getD l j (pos 0) ≡ pos 0) → getD l i (pos 0) ≡ pos 0

@@ -6,8 +6,8 @@ use Prim.Native.Nat.{ℕ, suc, _+_, _-_, _*_, _<_, _≤_}
 use lib.ListN.{length, getD, take, drop}
 use lib.IntN.{ℤ, pos, negsuc, _+ℤ_}
 use lib.Signed.{ltZ, _≤ℤ_, _<ℤ_}
-use Rattle.intervals.specs.Records.{same}
-use Rattle.intervals.specs.Lists.{Holds}
+use Rattle.theory_intervals.specs.Records.{same}
+use Rattle.theory_intervals.specs.Lists.{Holds}
 
 -- the numbers of record i
 abbrev pub trackNo : List ℤ → ℕ → ℤ

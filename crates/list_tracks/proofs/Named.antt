@@ -6,14 +6,14 @@ use native.Mathlib.Omega.{arith}
 use lib.ListN.{length}
 use lib.IntN.{ℤ}
 use borrow.Author.Tests.{eq-eqb, ne-eqb, le-leb, lt-leb}
-use Rattle.intervals.specs.OverInt.{encode}
-use Rattle.intervals.specs.Lists.{recs, onTrack, Holds, used, kept}
-use Rattle.intervals.proofs.Line.{Test, yea, nay, test}
-use Rattle.intervals.proofs.Lists.{kept-holds, holds-kept, holds-count}
+use Rattle.theory_intervals.specs.OverInt.{encode}
+use Rattle.theory_intervals.specs.Lists.{recs, onTrack, Holds, used, kept}
+use Rattle.theory_intervals.proofs.Line.{Test, yea, nay, test}
+use Rattle.theory_intervals.proofs.Lists.{kept-holds, holds-kept, holds-count}
 use Rattle.list_rules.specs.Kept.{keptOf}
 use Rattle.list_tracks.specs.Tracks.{partOf, trackOf}
-use Rattle.list_rules.specs.declared.rules.Used.{Used}
-use Rattle.list_rules.specs.declared.rules.Used.the-variants.{Records, Broken}
+use Rattle.list_rules.specs.declared.Used.{Used}
+use Rattle.list_rules.specs.declared.Used.the-variants.{Records, Broken}
 
 -- the answer of the rules check, and what the list holds
 pub records-holds : {l : List ℤ} {n : ℕ} → keptOf l ≡ Records n → Holds l n

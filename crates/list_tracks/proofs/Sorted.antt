@@ -9,13 +9,13 @@ use lib.ListN.{length, getD, take, drop}
 use lib.Seq.{drop-cons}
 use lib.IntN.{ℤ, pos, negsuc, natAbs, _+ℤ_}
 use lib.Signed.{ltZ, nonNeg, _≤ℤ_, _<ℤ_}
-use Rattle.signed.proofs.Laws.{signed, g-lt-true, g-lt-false}
-use Rattle.intervals.proofs.Line.{Test, yea, nay, test, no-both}
-use Rattle.intervals.specs.Records.{Rec, rec, same}
-use Rattle.intervals.specs.OverInt.{encode}
-use Rattle.intervals.specs.Flat.{rows}
-use Rattle.intervals.proofs.Index.{rows-ext}
-use Rattle.intervals.specs.Lists.{recs, onTrack, Holds}
+use Rattle.theory_signed.proofs.Laws.{signed, g-lt-true, g-lt-false}
+use Rattle.theory_intervals.proofs.Line.{Test, yea, nay, test, no-both}
+use Rattle.theory_intervals.specs.Records.{Rec, rec, same}
+use Rattle.theory_intervals.specs.OverInt.{encode}
+use Rattle.theory_intervals.specs.Flat.{rows}
+use Rattle.theory_intervals.proofs.Index.{rows-ext}
+use Rattle.theory_intervals.specs.Lists.{recs, onTrack, Holds}
 use Rattle.list_rules.specs.Inner.{trackNo, startNo, endNo, stateNo, mayFollow, Front, Split, Bounded}
 use Rattle.list_rules.proofs.ByIndex.{holds-both, nn-good}
 

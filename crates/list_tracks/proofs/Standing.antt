@@ -7,14 +7,14 @@ use lib.ListN.{length, take, drop, length-drop}
 use lib.Seq.{length-take-le}
 use lib.IntN.{ℤ, pos, _+ℤ_, natAbs}
 use lib.Signed.{_≤ℤ_, _<ℤ_}
-use Rattle.signed.proofs.Laws.{signed, g-lt-true, g-lt-false}
-use Rattle.intervals.specs.Records.{Rec}
-use Rattle.intervals.specs.Flat.{rows}
-use Rattle.intervals.specs.OverInt.{encode, decode}
-use Rattle.intervals.specs.Lists.{recs, onTrack, Holds}
+use Rattle.theory_signed.proofs.Laws.{signed, g-lt-true, g-lt-false}
+use Rattle.theory_intervals.specs.Records.{Rec}
+use Rattle.theory_intervals.specs.Flat.{rows}
+use Rattle.theory_intervals.specs.OverInt.{encode, decode}
+use Rattle.theory_intervals.specs.Lists.{recs, onTrack, Holds}
 use Rattle.list_tracks.specs.Tracks.{before, startOf, Stands}
 use Rattle.list_rules.specs.Inner.{trackNo, startNo, endNo, stateNo, Split, Part}
-use Rattle.intervals.proofs.Lists.{holds-room, holds-decode}
+use Rattle.theory_intervals.proofs.Lists.{holds-room, holds-decode}
 use Rattle.list_tracks.proofs.Sorted.{cut-is}
 
 before-rows : (x : ℤ) (n p : ℕ) (t a b : ℕ → ℤ) (s : ℕ → ℕ) → p ≤ n → ((k : ℕ) → k < p → t k <ℤ x) → ((k : ℕ) → p ≤ k → k < n → x ≤ℤ t k) → before x (rows n t a b s) ≡ p

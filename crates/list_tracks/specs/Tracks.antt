@@ -7,12 +7,12 @@ use lib.Dec.{eqb}
 use lib.ListN.{length, take, drop}
 use lib.IntN.{ℤ}
 use lib.Signed.{ltZ}
-use Rattle.intervals.specs.Records.{Rec, rec}
-use Rattle.intervals.specs.OverInt.{encode, decode}
-use Rattle.intervals.specs.Lists.{recs, goodLength, onTrack}
+use Rattle.theory_intervals.specs.Records.{Rec, rec}
+use Rattle.theory_intervals.specs.OverInt.{encode, decode}
+use Rattle.theory_intervals.specs.Lists.{recs, goodLength, onTrack}
 use Rattle.list_rules.specs.Kept.{keptOf}
-use Rattle.list_rules.specs.declared.rules.Used.{Used}
-use Rattle.list_rules.specs.declared.rules.Used.the-variants.{Records, Broken}
+use Rattle.list_rules.specs.declared.Used.{Used}
+use Rattle.list_rules.specs.declared.Used.the-variants.{Records, Broken}
 
 -- ---- "Records of a track: axis 0 column list, 1 row list"
 

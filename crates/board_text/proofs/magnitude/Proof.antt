@@ -1,6 +1,6 @@
 -- `magnitude` is safe: a number of 16 bits has its negative in 32.
 use borrow.Author.Needs.{needs}
-use Rattle.signed.proofs.Laws.{signed, rng}
+use Rattle.theory_signed.proofs.Laws.{signed, rng}
 use Rattle.board_text.proofs.magnitude.Statement.{statement}
 use Rattle.board_text.proofs.magnitude.Tie as tie
 

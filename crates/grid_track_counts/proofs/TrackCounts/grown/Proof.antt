@@ -4,8 +4,8 @@ use native.Mathlib.Omega.{arith}
 use mir.Syntax.{w16}
 use mir.Val.{SFits}
 use mir.Facts.{toZ-ofZ}
-use Rattle.coordinates.specs.declared.Lines.{Lines}
-use Rattle.signed.proofs.Laws.{signed}
+use Rattle.grid_coordinates.specs.declared.Lines.{Lines}
+use Rattle.theory_signed.proofs.Laws.{signed}
 use Rattle.grid_track_counts.specs.Counts.{grown}
 use Rattle.grid_track_counts.proofs.TrackCounts.grown.Statement.{statement}
 use Rattle.grid_track_counts.proofs.TrackCounts.grown.Tie as tie

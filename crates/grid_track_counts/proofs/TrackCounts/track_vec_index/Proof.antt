@@ -7,7 +7,7 @@ use lib.IntN.{ℤ, pos, negℤ}
 use mir.Syntax.{w16}
 use mir.Val.{SFits, toZ, ofZ}
 use mir.Facts.{toZ-ofZ}
-use Rattle.signed.proofs.Laws.{signed, fit16, neg, g-lt-true, g-lt-false}
+use Rattle.theory_signed.proofs.Laws.{signed, fit16, neg, g-lt-true, g-lt-false}
 use Rattle.grid_track_counts.specs.Counts.{indexOf, gridStart, gridEnd}
 use Rattle.grid_track_counts.specs.declared.TrackCounts.{TrackCounts}
 use Rattle.grid_track_counts.proofs.TrackCounts.track_vec_index.Statement.{statement}

@@ -2,7 +2,7 @@
 use borrow.Author.Needs.{needs}
 use mathlib.Core.Path.{_≡_, sym, ap, _∙_}
 use mir.Facts.{toZ-ofZ}
-use Rattle.line_calls.specs.Lines.{indexAnswer}
+use Rattle.hoarbale_lines.specs.Lines.{indexAnswer}
 use Rattle.hoarbale_c.specs.Lines.{ofIndex}
 use Rattle.hoarbale_c.proofs.lines.hoarbale_track_index.Statement.{statement}
 use Rattle.hoarbale_c.proofs.lines.hoarbale_track_index.Tie as tie

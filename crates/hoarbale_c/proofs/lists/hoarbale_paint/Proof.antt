@@ -4,9 +4,9 @@ use mathlib.Core.Path.{_≡_, sym, ap, _∙_}
 use mathlib.Core.List.{List}
 use lib.IntN.{ℤ}
 use mir.Facts.{toZ-ofZ}
-use Rattle.intervals.specs.Records.{Area}
-use Rattle.cell_painting.specs.Painting.{areaOf}
-use Rattle.list_calls.specs.Lists.{paintAnswer, paintLeft, paintNumber}
+use Rattle.theory_intervals.specs.Records.{Area}
+use Rattle.list_painting.specs.Painting.{areaOf}
+use Rattle.hoarbale_lists.specs.Lists.{paintAnswer, paintLeft, paintNumber}
 use Rattle.hoarbale_c.proofs.lists.hoarbale_paint.Statement.{statement}
 use Rattle.hoarbale_c.proofs.lists.hoarbale_paint.Tie as tie
 

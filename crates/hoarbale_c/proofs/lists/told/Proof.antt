@@ -2,7 +2,7 @@
 use borrow.Author.Needs.{needs}
 use mathlib.Core.Path.{sym, ap, _∙_}
 use mir.Facts.{toZ-ofZ}
-use Rattle.signed.proofs.Laws.{fit16}
+use Rattle.theory_signed.proofs.Laws.{fit16}
 use Rattle.hoarbale_c.specs.Lists.{ofJump}
 use Rattle.hoarbale_c.proofs.lists.told.Statement.{statement}
 use Rattle.hoarbale_c.proofs.lists.told.Tie as tie

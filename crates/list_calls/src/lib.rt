@@ -1,2 +1,0 @@
-// Calls of the door on one list.
-pub mod lists;

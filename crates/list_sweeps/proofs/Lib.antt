@@ -1,0 +1,4 @@
+pub mod Count
+pub mod Moves
+pub mod Sweeping
+pub mod Swept

@@ -1,2 +1,0 @@
-// The step for the items that are left.
-pub mod rest;

@@ -1,2 +1,0 @@
-// The step for items whose secondary lines alone are fixed.
-pub mod secondary;

@@ -1,2 +1,0 @@
-// Tracks painted in place.
-pub mod in_place;

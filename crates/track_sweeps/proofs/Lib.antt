@@ -1,4 +1,0 @@
-pub mod Count
-pub mod Moves
-pub mod Sweep
-pub mod Swept

@@ -1,2 +1,0 @@
-// Tracks painted one behind the other, by a sweep over the records behind them.
-pub mod sweeps;
