@@ -1,4 +1,6 @@
 // One file from standard input to its end, placed, and the answer on standard output.
+#![tactic(auto)]
+
 use board_file::place_file;
 
 fn run(

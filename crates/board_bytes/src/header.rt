@@ -5,7 +5,7 @@ ghost use Rattle.board_bytes.specs.File.{length_told, counts_at, header_of};
 use crate::bytes::word;
 use grid_track_counts::TrackCounts;
 
-#[derive(Drop)]
+#[derive(Clone, Copy)]
 pub struct Head {
     pub flow: u8,
     pub columns: TrackCounts,
@@ -14,7 +14,7 @@ pub struct Head {
 }
 
 // The head of a file that agrees with itself, or that the bytes are none: refusal 12.
-#[derive(Drop)]
+#[derive(Clone, Copy)]
 pub enum FileHeader {
     Good(Head),
     Refused,

@@ -1,4 +1,6 @@
 // A file placed.
+#![tactic(auto)]
+
 ghost use Rattle.std.specs.Prelude.{◌≡◌, true, ◌≤◌, length};
 ghost use Rattle.placing_run.specs.Placing.{placing_of};
 ghost use Rattle.board_bytes.specs.File.{good_file, head_of};
@@ -11,7 +13,7 @@ use hoarbale_placing::place;
 use placing_run::checked::Placing;
 
 // The item count and the final counts of columns and rows, or a refusal's number and index.
-#[derive(Drop)]
+#[derive(Clone, Copy)]
 pub enum FileAnswer {
     Placed(u16, TrackCounts, TrackCounts),
     Refused(u8, usize),

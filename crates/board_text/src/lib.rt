@@ -1,4 +1,6 @@
 // An answer as text, on standard output.
+#![tactic(auto)]
+
 use board_file::FileAnswer;
 use grid_track_counts::TrackCounts;
 

@@ -1,26 +1,28 @@
 // Grid lines. A line is a number of a coordinate system: CSS's, which counts from 1 up at the start edge and from -1 down at the
 // end edge, or origin-zero, where 0 is the start edge of the explicit grid. Each system has a type of its own.
+#![tactic(auto)]
+
 ghost use Rattle.std.specs.Prelude.{◌≡◌, ℕ, ◌≤◌, ◌-◌, ℤ, pos, negsuc, ◌≤ℤ◌};
 ghost use Rattle.theory_signed.specs.Parts.{up, dn};
 ghost use Rattle.grid_coordinates.specs.Line.{lowest, highest, clamp_to, origin_zero_of, css_of, limited, pressed, InGrid};
 
 // A line as CSS numbers it. 0 is none.
-#[derive(Drop)]
+#[derive(Clone, Copy)]
 pub struct GridLine(pub i16);
 
 // A line as the placement numbers it.
-#[derive(Drop)]
+#[derive(Clone, Copy)]
 pub struct OriginZeroLine(pub i16);
 
 // A start and an end line, both origin-zero.
-#[derive(Drop)]
+#[derive(Clone, Copy)]
 pub struct Lines {
     pub start: i16,
     pub end: i16,
 }
 
 // Lines that were limited, and whether that changed one.
-#[derive(Drop)]
+#[derive(Clone, Copy)]
 pub struct Limiting {
     pub lines: Lines,
     pub pressed: bool,

@@ -1,11 +1,13 @@
 // How many tracks an axis has: before the explicit grid, in it, and behind it.
+#![tactic(auto)]
+
 ghost use Rattle.std.specs.Prelude.{◌≡◌, ℕ, ◌+◌, max};
 ghost use Rattle.grid_coordinates.specs.Line.{Limited};
 ghost use Rattle.grid_track_counts.specs.Counts.{Sound, counts_good, grid_start, grid_end, grown, index_of};
 
 use grid_coordinates::{Lines, OriginZeroLine};
 
-#[derive(Drop)]
+#[derive(Clone, Copy)]
 pub struct TrackCounts {
     pub negative: u16,
     pub explicit: u16,
@@ -13,7 +15,7 @@ pub struct TrackCounts {
 }
 
 // A line's place in the vector of lines and tracks, in which lines have the even places.
-#[derive(Drop)]
+#[derive(Clone, Copy)]
 pub enum TrackVecIndex {
     At(u32),
     Absent,

@@ -8,14 +8,14 @@ use grid_track_counts::TrackCounts;
 use hoarbale_lines::{CssAnswer, IndexAnswer, OriginZeroAnswer};
 
 #[repr(C)]
-#[derive(Drop)]
+#[derive(Clone, Copy)]
 pub struct LineAnswer {
     pub number: u8,
     pub line: i16,
 }
 
 #[repr(C)]
-#[derive(Drop)]
+#[derive(Clone, Copy)]
 pub struct PlaceInVector {
     pub number: u8,
     pub present: bool,

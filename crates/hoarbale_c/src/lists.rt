@@ -8,7 +8,7 @@ ghost use Rattle.hoarbale_c.specs.Lists.{of_jump};
 use hoarbale_lists::{JumpAnswer, PaintAnswer};
 
 #[repr(C)]
-#[derive(Drop)]
+#[derive(Clone, Copy)]
 pub struct NextLine {
     pub number: u8,
     pub found: bool,
@@ -16,7 +16,7 @@ pub struct NextLine {
 }
 
 #[repr(C)]
-#[derive(Drop)]
+#[derive(Clone, Copy)]
 pub struct PartOfList {
     pub start: usize,
     pub length: usize,

@@ -9,7 +9,7 @@ use grid_track_counts::TrackCounts;
 use placing_run::checked::Placing;
 
 #[repr(C)]
-#[derive(Drop)]
+#[derive(Clone, Copy)]
 pub struct Counts {
     pub negative: u16,
     pub explicit: u16,
@@ -17,7 +17,7 @@ pub struct Counts {
 }
 
 #[repr(C)]
-#[derive(Drop)]
+#[derive(Clone, Copy)]
 pub struct PlaceAnswer {
     pub number: u8,
     pub index: usize,

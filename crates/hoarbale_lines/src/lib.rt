@@ -1,4 +1,6 @@
 // Line conversions, and a line's place in the track vector: calls of the door.
+#![tactic(auto)]
+
 ghost use Rattle.std.specs.Prelude.{◌≡◌};
 ghost use Rattle.hoarbale_lines.specs.Lines.{origin_zero_answer, css_answer, index_answer};
 
@@ -6,21 +8,21 @@ use grid_coordinates::{GridLine, OriginZeroLine};
 use grid_track_counts::{TrackCounts, TrackVecIndex};
 
 // The origin-zero line, or a refusal's number.
-#[derive(Drop)]
+#[derive(Clone, Copy)]
 pub enum OriginZeroAnswer {
     Line(OriginZeroLine),
     Refused(u8),
 }
 
 // The CSS line, or a refusal's number.
-#[derive(Drop)]
+#[derive(Clone, Copy)]
 pub enum CssAnswer {
     Line(GridLine),
     Refused(u8),
 }
 
 // The place in the track vector, or that there is none, or a refusal's number.
-#[derive(Drop)]
+#[derive(Clone, Copy)]
 pub enum IndexAnswer {
     At(u32),
     Absent,

@@ -1,4 +1,6 @@
 // Calls of the door on one list.
+#![tactic(auto)]
+
 ghost use Rattle.std.specs.Prelude.{◌≡◌};
 ghost use Rattle.list_tracks.specs.Tracks.{records_of_track};
 ghost use Rattle.theory_intervals.specs.Lists.{good_area};
@@ -10,21 +12,21 @@ use list_painting::Painted;
 use list_rules::Used;
 
 // How many records a list holds, or why it is not taken.
-#[derive(Drop)]
+#[derive(Clone, Copy)]
 pub enum Checked {
     Records(usize),
     Refused(u8),
 }
 
 // Whether the area was painted, or a refusal's number.
-#[derive(Drop)]
+#[derive(Clone, Copy)]
 pub enum PaintAnswer {
     Painted,
     Refused(u8),
 }
 
 // The line where a search goes on, or that the area is free, or a refusal's number.
-#[derive(Drop)]
+#[derive(Clone, Copy)]
 pub enum JumpAnswer {
     Next(i16),
     Free,

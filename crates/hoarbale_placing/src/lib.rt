@@ -1,4 +1,6 @@
 // The door: the placement call, and the promises of every public call of document 01.
+#![tactic(auto)]
+
 ghost use Rattle.std.specs.Prelude.{◌≡◌, length};
 ghost use Rattle.theory_walk.specs.Request.{outcome, answers_left, rows_left, columns_left};
 ghost use Rattle.placing_request.specs.Items.{request_of};

@@ -1,4 +1,6 @@
 // Tracks painted in place.
+#![tactic(auto)]
+
 ghost use Rattle.std.specs.Prelude.{◌≡◌, ◌+◌, ◌-◌, ◌*◌, ◌≤◌, length, drop, true};
 ghost use Rattle.std.specs.Int.Signed.{lt_z};
 ghost use Rattle.std.proofs.Common.{of_z};
@@ -17,7 +19,7 @@ use list_pieces::reach::{after_early, before_late};
 use list_sweeps::lift;
 
 // How many records there are, and how many of them are before the painted track.
-#[derive(Drop)]
+#[derive(Clone, Copy)]
 struct Count {
     pub before: usize,
     pub used: usize,

@@ -1,4 +1,6 @@
 // The two jumps over a row list or a column list. A list is lent and never changed here.
+#![tactic(auto)]
+
 ghost use Rattle.std.specs.Prelude.{◌≡◌, ◌/◌, length, ℤ, ◌<ℤ◌, cond, ◌&&◌};
 ghost use Rattle.std.specs.Int.Signed.{lt_z};
 ghost use Rattle.theory_intervals.specs.Lists.{Holds, recs};
@@ -9,21 +11,21 @@ use list_rules::number;
 use list_tracks::{last_track, lower};
 
 // What a track has against some lines: the line where the last record that overlaps them ends.
-#[derive(Drop)]
+#[derive(Clone, Copy)]
 pub enum Extent {
     Ends(i16),
     Free,
 }
 
 // Where a search goes on.
-#[derive(Drop)]
+#[derive(Clone, Copy)]
 pub enum Jump {
     Next(i16),
     Free,
 }
 
 // The records before lo start before a line, and those from hi on don't.
-#[derive(Drop)]
+#[derive(Clone, Copy)]
 struct Bounds {
     pub lo: usize,
     pub hi: usize,

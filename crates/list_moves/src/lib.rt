@@ -1,4 +1,6 @@
 // Moving, storing and wiping numbers of a list in place.
+#![tactic(auto)]
+
 ghost use Rattle.std.specs.Prelude.{◌≡◌, [], ◌∷◌, ◌+◌, ◌-◌, ◌≤◌, ◌<◌, length, drop, replicate, pos};
 ghost use Rattle.std.proofs.Math.Seq.{paste};
 

@@ -1,6 +1,8 @@
 // Changing a row list or a column list: counting the records that a paint leaves, painting, clearing. A list is changed in place, without
 // scratch memory, in time in proportion to its records and to the tracks crossed; where the area lies behind the last record, to its tracks.
 
+#![tactic(auto)]
+
 ghost use Rattle.std.specs.Prelude.{◌≡◌, true, ◌+◌, ◌*◌, ◌≤◌, ◌<◌, ltb, length, replicate, pos};
 ghost use Rattle.std.specs.Int.Signed.{lt_z};
 ghost use Rattle.theory_signed.specs.Parts.{gap};
@@ -214,7 +216,7 @@ pub fn paint_fitting(
 }
 
 // The number of records after painting, or that the list has too few places for them.
-#[derive(Drop)]
+#[derive(Clone, Copy)]
 pub enum Painted {
     Used(usize),
     NoRoom,

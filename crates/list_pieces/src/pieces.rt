@@ -52,7 +52,7 @@ fn right_of(d: i16, v: i16, b: i16, s: i16) -> bool
 }
 
 // At most three records, the first `new` of `put`.
-#[derive(Drop)]
+#[derive(Clone, Copy)]
 struct Piece {
     pub put: [i16; 12],
     pub new: usize,
@@ -108,7 +108,7 @@ fn cut_out(list: &[i16], i: usize, j: usize, t: i16, a: i16, b: i16, s: i16) -> 
 }
 
 // Whether the records that a paint reaches become one, and its lines.
-#[derive(Drop)]
+#[derive(Clone, Copy)]
 pub struct OneRecord {
     pub so: bool,
     pub start: i16,
@@ -149,7 +149,7 @@ pub fn joined(list: &[i16], i: usize, j: usize, a: i16, b: i16, s: i16) -> OneRe
 }
 
 // Which of the first n records the paint of one track reaches, first..past, and what becomes of them: the first `new` records of `put`.
-#[derive(Drop)]
+#[derive(Clone, Copy)]
 pub struct Reached {
     pub first: usize,
     pub past: usize,

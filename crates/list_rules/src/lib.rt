@@ -1,4 +1,6 @@
 // Whether a row list or a column list keeps its rules, and with how many records. A list is lent and never changed here.
+#![tactic(auto)]
+
 ghost use Rattle.std.specs.Prelude.{◌≡◌, true, false, ◌+◌, ◌*◌, ◌≤◌, ◌<◌, length, get_or, pos};
 ghost use Rattle.std.specs.Int.{w16};
 ghost use Rattle.std.proofs.Common.{SFits};
@@ -6,7 +8,7 @@ ghost use Rattle.list_rules.specs.Kept.{kept_of};
 ghost use Rattle.list_rules.specs.Inner.{Says, GoodAt, follow_at, Goes, Front, Zeros};
 
 // How many records a list holds, if it keeps the rules.
-#[derive(Drop)]
+#[derive(Clone, Copy)]
 pub enum Used {
     Records(usize),
     Broken,

@@ -1,4 +1,6 @@
 // Tracks painted one behind the other, by a sweep over the records behind them.
+#![tactic(auto)]
+
 ghost use Rattle.std.specs.Prelude.{◌≡◌, ◌+◌, ◌-◌, ◌*◌, ◌≤◌, ◌<◌, length, drop, true, ◌||◌, leb};
 ghost use Rattle.std.specs.Int.Signed.{lt_z};
 ghost use Rattle.std.proofs.Common.{of_z};
@@ -50,7 +52,7 @@ fn sink(list: &mut [i16], from: usize, used: usize, by: usize)
 }
 
 // The list holds the records 0..r, a gap, and the records w..top.
-#[derive(Drop)]
+#[derive(Clone, Copy)]
 struct Place {
     pub r: usize,
     pub w: usize,

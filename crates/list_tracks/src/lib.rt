@@ -1,4 +1,6 @@
 // The records of a track: a part of a list that keeps its rules, found by halving, or by going from record to record where they are near.
+#![tactic(auto)]
+
 ghost use Rattle.std.specs.Prelude.{◌≡◌, ℕ, ◌+◌, ◌-◌, ◌*◌, ◌≤◌, ◌<◌, ℤ, ◌<ℤ◌};
 ghost use Rattle.theory_intervals.specs.OverInt.{encode};
 ghost use Rattle.theory_intervals.specs.Lists.{Holds, recs, on_track};
@@ -8,7 +10,7 @@ ghost use Rattle.list_rules.specs.Inner.{track_no, Front, Split, Part, Tail};
 use list_rules::{Used, kept, number};
 
 // Where a part of a list stands: the place of its first number, and how many numbers it has. An empty part stands at 0.
-#[derive(Drop)]
+#[derive(Clone, Copy)]
 pub struct Place {
     pub start: usize,
     pub length: usize,

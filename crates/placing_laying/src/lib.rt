@@ -1,5 +1,7 @@
 // One tile laid. The two lists are lent as the primary list, whose tracks lie along the primary axis, and the secondary list; counts
 // and how many records each list holds go by value beside them.
+#![tactic(auto)]
+
 ghost use Rattle.std.specs.Prelude.{◌≡◌, cond, ◌||◌, [], ◌∷◌, ◌+◌, ◌*◌, ◌≤◌, ◌<◌, ◌%◌, ℤ, pos, ◌≤ℤ◌, length};
 ghost use Rattle.std.proofs.lemmas.List.Edits.{sets};
 ghost use Rattle.theory_intervals.specs.OverInt.{paint_list, flat};
@@ -17,7 +19,7 @@ use grid_track_counts::TrackCounts;
 use list_painting::paint_fitting;
 
 // Beside the lists: the counts of each axis, and how many records each list holds.
-#[derive(Drop)]
+#[derive(Clone, Copy)]
 pub struct Matrix {
     pub primary: TrackCounts,
     pub secondary: TrackCounts,
@@ -26,14 +28,14 @@ pub struct Matrix {
 }
 
 // What became of one item: the board as it is now, or the number of the list that is too short.
-#[derive(Drop)]
+#[derive(Clone, Copy)]
 pub enum Laid {
     On(Matrix),
     Short(u8),
 }
 
 // What became of a step: the board as it is after it, or the number of the list that is too short and the item's index.
-#[derive(Drop)]
+#[derive(Clone, Copy)]
 pub enum Stepped {
     Done(Matrix),
     Refused(u8, usize),

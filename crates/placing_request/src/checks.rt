@@ -7,7 +7,7 @@ use crate::{FirstBad, first_bad};
 use grid_track_counts::TrackCounts;
 
 // That a request may be placed, or a refusal's number and index.
-#[derive(Drop)]
+#[derive(Clone, Copy)]
 pub enum Check {
     Passed,
     Refused(u8, usize),

@@ -1,4 +1,6 @@
 // The items of a request as they are lent: six numbers each. Whether each keeps its rules, and where an item goes in an axis.
+#![tactic(auto)]
+
 ghost use Rattle.std.specs.Prelude.{◌≡◌, true, ◌+◌, ◌*◌, ◌≤◌, ◌<◌, length, pos};
 ghost use Rattle.std.specs.Int.{w16};
 ghost use Rattle.std.proofs.Common.{SFits};
@@ -13,7 +15,7 @@ use theory_walk::Placement;
 pub mod checks;
 
 // The first item that breaks its rules, if one does.
-#[derive(Drop)]
+#[derive(Clone, Copy)]
 pub enum FirstBad {
     At(usize),
     AllGood,

@@ -10,7 +10,7 @@ use grid_track_counts::TrackCounts;
 use placing_laying::Stepped;
 
 // The final counts of columns and rows, or the number of the list that is too short and the item's index.
-#[derive(Drop)]
+#[derive(Clone, Copy)]
 pub enum Placing {
     Placed(TrackCounts, TrackCounts),
     Refused(u8, usize),

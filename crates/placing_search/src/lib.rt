@@ -1,5 +1,7 @@
 // The searches of the placement walk. Each looks through one lent list of records, by jumps, and settles on the first place that
 // is clear. None of them changes the list.
+#![tactic(auto)]
+
 ghost use Rattle.std.specs.Prelude.{◌≡◌, ◌≤◌, ℤ, pos, ◌+ℤ◌, ◌≤ℤ◌, ◌<ℤ◌};
 ghost use Rattle.theory_intervals.specs.Lists.{Holds, recs};
 ghost use Rattle.theory_walk.specs.Axis as Axis;
@@ -52,7 +54,7 @@ pub fn first_free_stripe(list: &[i16], used: usize, start: i16, span: u16) -> i1
 }
 
 // A primary and a secondary line.
-#[derive(Drop)]
+#[derive(Clone, Copy)]
 pub struct Pair {
     pub primary: i16,
     pub secondary: i16,

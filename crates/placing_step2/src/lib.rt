@@ -1,4 +1,6 @@
 // The step for items whose secondary lines alone are fixed.
+#![tactic(auto)]
+
 ghost use Rattle.std.specs.Prelude.{◌≡◌, cond, false, List, ℕ, ◌+◌, ◌*◌, ◌/◌, ◌≤◌, ℤ, pos, length, ◌≤ℤ◌, ◌<ℤ◌};
 ghost use Rattle.std.specs.Int.{w16};
 ghost use Rattle.std.proofs.Common.{SFits};

@@ -1,4 +1,6 @@
 // The step for the items that are left.
+#![tactic(auto)]
+
 ghost use Rattle.std.specs.Prelude.{◌≡◌, List, ℕ, ◌+◌, ◌*◌, ◌/◌, ◌≤◌, ℤ, length};
 ghost use Rattle.theory_walk.specs.Axis.{Both};
 ghost use Rattle.theory_walk.specs.Walk.{Board, put, choose_line, choose_pair, step4, begin4, last4};
@@ -17,7 +19,7 @@ use placing_step4_choice::{next_cursor, settle_line, settle_pair, span_of, spann
 use theory_walk::Placement;
 
 // What became of one item: the board as it is now and the cursor after the item, or the number of the list that is too short.
-#[derive(Drop)]
+#[derive(Clone, Copy)]
 pub enum Turn {
     On(Matrix, Pair),
     Short(u8),

@@ -1,4 +1,6 @@
 // Where the items go that are left, and the cursor.
+#![tactic(auto)]
+
 ghost use Rattle.std.specs.Prelude.{◌≡◌, cond, ◌+◌, ◌/◌, ◌≤◌, ℤ, pos, ◌+ℤ◌, ◌<ℤ◌};
 ghost use Rattle.std.specs.Int.{w16};
 ghost use Rattle.std.proofs.Common.{SFits};
@@ -19,7 +21,7 @@ use placing_search::{Pair, first_free_line, first_free_pair};
 use theory_walk::Placement;
 
 // Where an item goes that is fixed in neither axis, and the flags of its mark.
-#[derive(Drop)]
+#[derive(Clone, Copy)]
 pub struct Settled {
     pub place: Pair,
     pub flags: u16,

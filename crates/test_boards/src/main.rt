@@ -1,4 +1,6 @@
 // The worked boards of document 01: from the bytes of a file, case 6 straight through the door too, and files that are damaged.
+#![tactic(auto)]
+
 mod damaged;
 mod door;
 

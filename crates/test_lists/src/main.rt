@@ -1,4 +1,6 @@
 // A program over the list calls: a line for each call, with its answer and what it left; the file `stdout` has what document 01 says.
+#![tactic(auto)]
+
 mod telling;
 
 use crate::telling::{damaged, jump, occupied, paint, part};

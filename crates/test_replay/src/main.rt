@@ -1,4 +1,6 @@
 // Places requests that the original has placed, and compares every line and count with what it gave; `differential/run --replay` writes the file `stdin`.
+#![tactic(auto)]
+
 mod data;
 mod replaying;
 

@@ -7,7 +7,7 @@ use grid_track_counts::TrackCounts;
 use placing_run::checked::Placing;
 
 // Where the next request begins, how many requests agree in every number, how many numbers were compared and how many of them are alike.
-#[derive(Drop)]
+#[derive(Clone, Copy)]
 struct Tally {
     at: usize,
     agree: u64,

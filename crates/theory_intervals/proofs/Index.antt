@@ -41,10 +41,22 @@ module _ {Z : Type 0} (ltb : Z → Z → Bool) (ok : ℕ → Bool) where
       → (0 < n → follows ltb (T 0) (B 0) (S 0) (T 1) (A 1) (S 1) ≡ true)
       → Ruled n (λ i. T (suc i)) (λ i. A (suc i)) (λ i. B (suc i)) (λ i. S (suc i)) → Ruled (suc n) T A B S
   unshift n T A B S l o f r = record {
-    each = λ i. elim i [ zero ↦ λ h. l | suc j ↦ λ h. r.each j (omega arith) ];
-    okay = λ i. elim i [ zero ↦ λ h. o | suc j ↦ λ h. r.okay j (omega arith) ];
-    pair = λ i. elim i [ zero ↦ λ h. f (omega arith) | suc j ↦ λ h. r.pair j (omega arith) ];
+    each = each;
+    okay = okay;
+    pair = pair;
   }
+    where
+      each : (i : ℕ) → i < suc n → ltb (A i) (B i) ≡ true
+      each zero h = l
+      each (suc j) h = r.each j (omega arith)
+
+      okay : (i : ℕ) → i < suc n → ok (S i) ≡ true
+      okay zero h = o
+      okay (suc j) h = r.okay j (omega arith)
+
+      pair : (i : ℕ) → suc i < suc n → follows ltb (T i) (B i) (S i) (T (suc i)) (A (suc i)) (S (suc i)) ≡ true
+      pair zero h = f (omega arith)
+      pair (suc j) h = r.pair j (omega arith)
 
   empty_ruled : (T A B : ℕ → Z) (S : ℕ → ℕ) → Ruled 0 T A B S
   empty_ruled T A B S = record { each = λ i h. absurd (omega arith); okay = λ i h. absurd (omega arith); pair = λ i h. absurd (omega arith) }

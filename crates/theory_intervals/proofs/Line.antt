@@ -327,7 +327,7 @@ module _ {X : Type 0} (ltb : X → X → Bool) (L : Linear X ltb) where
 
     pub before_from : {x y a : X} {s t : ℕ} {rs k : List (Run X)} → x ≤ y → x ≤ a → F y s rs → F a t k → F x 0 (before ltb a rs k)
     before_from h j none i = relax j i
-    before_from {x} {y} {a} {k = k} h j (next {a = c} {b = d} {u} {rs} g l n f) i = go (test (ltb c a)) (before_from (cut_r a d) (cut_l a d) f i)
+    before_from {x} {y} {a} {k = k} h j (next {a = c} {b = d} {u} {rs} g l n f) i = go (test (ltb c a)) (before_from {x = cond (ltb a d) a d} (cut_r a d) (cut_l a d) f i)
       where
         go : Test (ltb c a) → F (cond (ltb a d) a d) 0 (before ltb a rs k) → F x 0 (before ltb a (run c d u ∷ rs) k)
         go (nay e) r = rw e (relax j i)

@@ -46,26 +46,26 @@ module _ {X : Type 0} (ltb : X → X → Bool) (L : Linear X ltb) (Ok : ℕ → 
 
   reach : {z : X} {u : ℕ} (p q : X) (v : ℕ) (rest xs : List (Run X)) → F z u (xs ++ (run p q v ∷ rest)) → ◌≼◌ ltb z p
   reach p q v rest [] (next g w o f) = Ln.gap_le ltb L Ok W R g
-  reach p q v rest (r ∷ xs) (next g w o f) = Ln.≤-tra ltb L (Ln.gap_le ltb L Ok W R g) (Ln.≤-tra ltb L (Ln.weak ltb L (R.up w)) (reach p q v rest xs f))
+  reach {z = z} {u = u} p q v rest (r ∷ xs) (next {b = b} g w o f) = Ln.≤-tra ltb L (Ln.gap_le ltb L Ok W R g) (Ln.≤-tra ltb L (Ln.weak ltb L (R.up w)) (reach {z = b} p q v rest xs f))
 
   up_of : {z : X} {u : ℕ} (p q : X) (v : ℕ) (rest xs : List (Run X)) → F z u (xs ++ (run p q v ∷ rest)) → ◌≺◌ ltb p q
   up_of p q v rest [] (next g w o f) = R.up w
-  up_of p q v rest (r ∷ xs) (next g w o f) = up_of p q v rest xs f
+  up_of {z = z} {u = u} p q v rest (r ∷ xs) (next {b = b} g w o f) = up_of {z = b} p q v rest xs f
 
   module _ (x y : X) (s : ℕ) (l : ◌≺◌ ltb x y) where
     leads_early : {z : X} {u : ℕ} (p q : X) (v : ℕ) (rest xs : List (Run X)) → F z u (xs ++ (run p q v ∷ rest)) → gapb ltb q v x s ≡ true → leads ltb x s rest ≡ 0
         → leads ltb x s (xs ++ (run p q v ∷ rest)) ≡ suc (length xs)
     leads_early p q v rest [] f e h = rw (e, h)
-    leads_early p q v rest (run c d w ∷ xs) (next g i o f) e h =
+    leads_early {z = z} {u = u} p q v rest (run c d w ∷ xs) (next g i o f) e h =
         let k : ◌≺◌ ltb d x = Ln.<-≤ ltb L (Ln.≤-< ltb L (reach p q v rest xs f) (up_of p q v rest xs f)) (Ln.gap_le ltb L Ok W R (Cu.gap_yes ltb L Ok W R q v x s e)) in
-        rw k.lt (ap suc (leads_early p q v rest xs f e h))
+        rw k.lt (ap suc (leads_early {z = d} p q v rest xs f e h))
 
     mids_late : {z : X} {u : ℕ} (p q : X) (v : ℕ) (rest xs : List (Run X)) → F z u (xs ++ (run p q v ∷ rest)) → gapb ltb y s p v ≡ false → mids ltb y s rest ≡ 0
         → mids ltb y s (xs ++ (run p q v ∷ rest)) ≡ suc (length xs)
     mids_late p q v rest [] f e h = rw (e, h)
-    mids_late p q v rest (run c d w ∷ xs) (next g i o f) e h =
+    mids_late {z = z} {u = u} p q v rest (run c d w ∷ xs) (next g i o f) e h =
         let k : ◌≺◌ ltb c y = Ln.<-≤ ltb L (Ln.<-≤ ltb L (R.up i) (reach p q v rest xs f)) (Cu.gap_no ltb L Ok W R y s p v e) in
-        rw ((Ln.weak ltb L k).le, k.lt) (ap suc (mids_late p q v rest xs f e h))
+        rw ((Ln.weak ltb L k).le, k.lt) (ap suc (mids_late {z = d} p q v rest xs f e h))
 
     late_mids : {rs : List (Run X)} → Late ltb y s rs → mids ltb y s rs ≡ 0
     late_mids nil = refl
@@ -79,7 +79,7 @@ module _ {X : Type 0} (ltb : X → X → Bool) (L : Linear X ltb) (Ok : ℕ → 
 
     after_pre : {z : X} {u : ℕ} (rest pre : List (Run X)) → F z u (pre ++ rest) → (P : Type 0) → ((z' : X) (u' : ℕ) → F z' u' rest → P) → P
     after_pre {z} {u} rest [] f P k = k z u f
-    after_pre rest (r ∷ pre) (next g w o f) P k = after_pre rest pre f P k
+    after_pre {z = z} {u = u} rest (r ∷ pre) (next {b = b} g w o f) P k = after_pre {z = b} rest pre f P k
 
     none_leads : {z : X} {u : ℕ} (mid post : List (Run X)) → F z u (mid ++ post) → NotEarly ltb x s mid → Late ltb y s post → leads ltb x s (mid ++ post) ≡ 0
     none_leads mid post f nil h = late_leads f h
