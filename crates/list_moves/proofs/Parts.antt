@@ -128,4 +128,4 @@ module _ {ℓ} {A : Type ℓ} where
 
 -- a number that was read from a `&mut [i16]`, or a parameter, and is stored: it went through its bits
 pub same16 : {z : ℤ} → mag z < 2 ^ 15 → to_z w16 (of_z w16 z) ≡ z
-same16 h = to_z-of_z (record { sfits = h })
+same16 h = to_z-of_z {w = w16} (record { sfits = h })

@@ -6,8 +6,7 @@ use lib.ListN.{length, get_or, set, replicate, length-replicate, get_or-replicat
 use lib.IntN.{ℤ, pos}
 use Rattle.list_moves.proofs.Parts.{Pasted, pasted_none, pasted_more}
 use native.Mathlib.Omega.{arith}
-use Rattle.list_moves.proofs.wipe.Statement.{statement}
-use Rattle.list_moves.proofs.wipe.Tie as tie
+use Rattle.list_moves.proofs.wipe.Goals as goal
 
 record Inv (l : List ℤ) (from to : ℕ) (list : List ℤ) (i : ℕ) : Type 0 where
   low : from ≤ i
@@ -23,49 +22,28 @@ again {l} {from} {to} {list} {i} h v t =
     let x : pos 0 ≡ get_or (replicate (to - from) (pos 0)) (i - from) (pos 0) = sym (get_or-replicate (to - from) (i - from) (pos 0) (pos 0) (omega arith)) in
     record { low = omega arith; high = omega arith; done = pasted_more (i + 1 - from) i (pos 0) (pos 0) v.done (omega arith) (omega arith) (omega arith) n x }
 
-abbrev invariant-loop : tie.invariant-loop
-invariant-loop list₀ from to i₀ list i = Inv list₀ from to list i
+pub loop-i-init : goal.loop-i-init
+loop-i-init c = start _ _ _ c.requires.from_le_to
 
-abbrev decreases-loop : tie.decreases-loop
-decreases-loop list₀ from to i₀ list i = to - i
+pub offset_bounds-list-i : goal.offset_bounds-list-i
+offset_bounds-list-i c = omega arith
 
-loop-holds : tie.Need-loop-init invariant-loop decreases-loop
-loop-holds c = start _ _ _ c.requires.0
+pub slice_set_of-list : goal.slice_set_of-list
+slice_set_of-list c = omega arith
 
-mul-list : tie.Need-overflow-mul-list invariant-loop decreases-loop
-mul-list c = omega arith
+pub overflow_add-i : goal.overflow_add-i
+overflow_add-i c = omega arith
 
-slice-set-of-list : tie.Need-slice-set-of-list invariant-loop decreases-loop
-slice-set-of-list c = omega arith
+pub loop-i-smaller : goal.loop-i-smaller
+loop-i-smaller c = omega arith
 
-add-i : tie.Need-overflow-add-i invariant-loop decreases-loop
-add-i c = omega arith
+pub loop-i-preserved : goal.loop-i-preserved
+loop-i-preserved c = again c.requires.to_in_bounds c.loop-i.invariant c.loop-i-test.true
 
-loop-less : tie.Need-loop-smaller invariant-loop decreases-loop
-loop-less c = omega arith
+pub shape_of-list : goal.shape_of-list
+shape_of-list c = omega arith
 
-loop-again : tie.Need-loop-preserved invariant-loop decreases-loop
-loop-again c = again c.before.before.requires.1 c.before.loop.invariant c.loop-test.true
-
-same_length : tie.Need-same-length invariant-loop decreases-loop
-same_length c = omega arith
-
-returns : tie.Need-returns invariant-loop decreases-loop
+pub returns : goal.returns
 returns c =
-    let e : c.before.loop.i ≡ c.before.before.args.to = omega arith in
-    rw e at c.before.loop.invariant.done.is
-
-pub wipe-spec : {M : Type 1} → statement M
-wipe-spec =
-    tie.close
-    (tie.spec
-    invariant-loop
-    decreases-loop
-    loop-holds
-    mul-list
-    slice-set-of-list
-    add-i
-    loop-less
-    loop-again
-    same_length
-    returns)
+    let e : c.loop-i.i ≡ c.args.to = omega arith in
+    rw e at c.loop-i.invariant.done.is

@@ -7,8 +7,7 @@ use lib.Seq.{get_or-drop}
 use lib.IntN.{ℤ, pos}
 use Rattle.list_moves.proofs.Parts.{same16, Pasted, pasted_none, pasted_more, get_or_paste_past}
 use native.Mathlib.Omega.{arith}
-use Rattle.list_moves.proofs.move_down.Statement.{statement}
-use Rattle.list_moves.proofs.move_down.Tie as tie
+use Rattle.list_moves.proofs.move_down.Goals as goal
 
 record Inv (l : List ℤ) (from used by : ℕ) (list : List ℤ) (i : ℕ) : Type 0 where
   low : from ≤ i
@@ -34,63 +33,39 @@ again {l} {from} {used} {by} {list} {i} b h v t =
       done = pasted_more (i + 1 - from) (i - by) (get_or list i (pos 0)) (pos 0) v.done (omega arith) (omega arith) (omega arith) n x;
     }
 
-abbrev invariant-loop : tie.invariant-loop
-invariant-loop list₀ from used by i₀ list i = Inv list₀ from used by list i
+pub loop-i-init : goal.loop-i-init
+loop-i-init c = start _ _ _ _ c.requires.from_le_used
 
-abbrev decreases-loop : tie.decreases-loop
-decreases-loop list₀ from used by i₀ list i = used - i
+pub offset_bounds-list-i : goal.offset_bounds-list-i
+offset_bounds-list-i c = omega arith
 
-loop-holds : tie.Need-loop-init invariant-loop decreases-loop
-loop-holds c = start _ _ _ _ c.requires.1.0
+pub slice_copy_out-x : goal.slice_copy_out-x
+slice_copy_out-x c = omega arith
 
-mul-x : tie.Need-overflow-mul-x invariant-loop decreases-loop
-mul-x c = omega arith
+pub overflow_sub-x : goal.overflow_sub-x
+overflow_sub-x c = omega arith
 
-slice-copy-out-x : tie.Need-slice-copy-out-x invariant-loop decreases-loop
-slice-copy-out-x c = omega arith
+pub offset_bounds-list-i-in-loop-i : goal.offset_bounds-list-i-in-loop-i
+offset_bounds-list-i-in-loop-i c = omega arith
 
-sub-x : tie.Need-overflow-sub-x invariant-loop decreases-loop
-sub-x c = omega arith
+pub bounds-list-i : goal.bounds-list-i
+bounds-list-i c = omega arith
 
-mul-x-2 : tie.Need-overflow-mul-x-2 invariant-loop decreases-loop
-mul-x-2 c = omega arith
+pub overflow_add-i : goal.overflow_add-i
+overflow_add-i c = omega arith
 
-slice-set-from-x : tie.Need-slice-set-from-x invariant-loop decreases-loop
-slice-set-from-x c = omega arith
+pub loop-i-smaller : goal.loop-i-smaller
+loop-i-smaller c = omega arith
 
-add-i : tie.Need-overflow-add-i invariant-loop decreases-loop
-add-i c = omega arith
-
-loop-less : tie.Need-loop-smaller invariant-loop decreases-loop
-loop-less c = omega arith
-
-loop-again : tie.Need-loop-preserved invariant-loop decreases-loop
-loop-again c =
+pub loop-i-preserved : goal.loop-i-preserved
+loop-i-preserved c =
     let l = c.before.before in
-    rw (same16 c.x.given) (again l.before.requires.0 l.before.requires.1.1 l.loop.invariant c.before.loop-test.true)
+    rw (same16 c.x-1.given) (again l.requires.by_le_from l.requires.used_in_bounds l.loop-i.invariant c.loop-i-test.true)
 
-same_length : tie.Need-same-length invariant-loop decreases-loop
-same_length c = omega arith
+pub shape_of-list : goal.shape_of-list
+shape_of-list c = omega arith
 
-returns : tie.Need-returns invariant-loop decreases-loop
+pub returns : goal.returns
 returns c =
-    let e : c.before.loop.i ≡ c.before.before.args.used = omega arith in
-    rw e at c.before.loop.invariant.done.is
-
-pub move_down_spec : {M : Type 1} → statement M
-move_down_spec =
-    tie.close
-    (tie.spec
-    invariant-loop
-    decreases-loop
-    loop-holds
-    mul-x
-    slice-copy-out-x
-    sub-x
-    mul-x-2
-    slice-set-from-x
-    add-i
-    loop-less
-    loop-again
-    same_length
-    returns)
+    let e : c.loop-i.i ≡ c.args.used = omega arith in
+    rw e at c.loop-i.invariant.done.is

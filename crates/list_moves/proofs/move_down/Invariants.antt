@@ -1,0 +1,15 @@
+use Prim.Native.Nat.{ℕ, ◌≤◌, ◌<◌, ◌+◌, ◌-◌}
+use mathlib.Core.Path.{◌≡◌, sym, ap, ◌∙◌}
+use mathlib.Core.List.{List}
+use lib.ListN.{length, drop, get_or, set, length-drop}
+use lib.Seq.{get_or-drop}
+use lib.IntN.{ℤ, pos}
+use Rattle.list_moves.proofs.Parts.{same16, Pasted, pasted_none, pasted_more, get_or_paste_past}
+use native.Mathlib.Omega.{arith}
+use Rattle.list_moves.proofs.move_down.Given as goal
+
+abbrev pub invariant-loop-i : goal.invariant-loop-i
+invariant-loop-i l = Inv l.initial.list l.from l.used l.by l.list l.i
+
+abbrev pub decreases-loop-i : goal.decreases-loop-i
+decreases-loop-i l = l.used - l.i

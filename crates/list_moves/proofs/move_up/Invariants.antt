@@ -1,0 +1,15 @@
+use Prim.Native.Nat.{ℕ, suc, ◌≤◌, ◌<◌, ◌+◌, ◌-◌}
+use mathlib.Core.Path.{◌≡◌, sym, ap, ◌∙◌}
+use mathlib.Core.List.{List, ◌∷◌}
+use lib.ListN.{length, drop, get_or, set}
+use lib.Seq.{drop-cons}
+use lib.IntN.{ℤ, pos}
+use Rattle.list_moves.proofs.Parts.{same16, Pasted, pasted_none, pasted_pre, get_or_paste_before}
+use native.Mathlib.Omega.{arith}
+use Rattle.list_moves.proofs.move_up.Given as goal
+
+abbrev pub invariant-loop-i : goal.invariant-loop-i
+invariant-loop-i l = Inv l.initial.list l.from l.used l.by l.list l.i
+
+abbrev pub decreases-loop-i : goal.decreases-loop-i
+decreases-loop-i l = l.i

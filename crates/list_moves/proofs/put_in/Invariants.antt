@@ -1,0 +1,14 @@
+use Prim.Native.Nat.{ℕ, ◌≤◌, ◌<◌, ◌+◌, ◌-◌}
+use mathlib.Core.Path.{◌≡◌, refl}
+use mathlib.Core.List.{List}
+use lib.ListN.{length, get_or, set}
+use lib.IntN.{ℤ, pos}
+use Rattle.list_moves.proofs.Parts.{same16, Pasted, pasted_none, pasted_more}
+use native.Mathlib.Omega.{arith}
+use Rattle.list_moves.proofs.put_in.Given as goal
+
+abbrev pub invariant-loop-i : goal.invariant-loop-i
+invariant-loop-i l = Inv l.initial.list l.at l.put l.n l.list l.i
+
+abbrev pub decreases-loop-i : goal.decreases-loop-i
+decreases-loop-i l = l.n - l.i

@@ -1,0 +1,14 @@
+use Prim.Native.Nat.{ℕ, ◌≤◌, ◌<◌, ◌+◌, ◌-◌}
+use mathlib.Core.Path.{◌≡◌, sym}
+use mathlib.Core.List.{List}
+use lib.ListN.{length, get_or, set, replicate, length-replicate, get_or-replicate}
+use lib.IntN.{ℤ, pos}
+use Rattle.list_moves.proofs.Parts.{Pasted, pasted_none, pasted_more}
+use native.Mathlib.Omega.{arith}
+use Rattle.list_moves.proofs.wipe.Given as goal
+
+abbrev pub invariant-loop-i : goal.invariant-loop-i
+invariant-loop-i l = Inv l.initial.list l.from l.to l.list l.i
+
+abbrev pub decreases-loop-i : goal.decreases-loop-i
+decreases-loop-i l = l.to - l.i
