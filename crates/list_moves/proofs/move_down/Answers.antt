@@ -7,12 +7,8 @@ use lib.Seq.{get_or-drop}
 use lib.IntN.{ℤ, pos}
 use Rattle.list_moves.proofs.Parts.{same16, Pasted, pasted_none, pasted_more, get_or_paste_past}
 use native.Mathlib.Omega.{arith}
+use Rattle.list_moves.proofs.move_down.Invariants.{Inv}
 use Rattle.list_moves.proofs.move_down.Goals as goal
-
-record Inv (l : List ℤ) (from used by : ℕ) (list : List ℤ) (i : ℕ) : Type 0 where
-  low : from ≤ i
-  high : i ≤ used
-  done : Pasted l (from - by) (drop from l) (i - from) list
 
 start : (l : List ℤ) (from used by : ℕ) → from ≤ used → Inv l from used by l from
 start l from used by h = record { low = omega arith; high = h; done = pasted_none l (from - by) (drop from l) (from - from) (omega arith) }

@@ -8,6 +8,11 @@ use Rattle.list_moves.proofs.Parts.{same16, Pasted, pasted_none, pasted_more, ge
 use native.Mathlib.Omega.{arith}
 use Rattle.list_moves.proofs.move_down.Given as goal
 
+pub record Inv (l : List ℤ) (from used by : ℕ) (list : List ℤ) (i : ℕ) : Type 0 where
+  pub low : from ≤ i
+  pub high : i ≤ used
+  pub done : Pasted l (from - by) (drop from l) (i - from) list
+
 abbrev pub invariant-loop-i : goal.invariant-loop-i
 invariant-loop-i l = Inv l.initial.list l.from l.used l.by l.list l.i
 

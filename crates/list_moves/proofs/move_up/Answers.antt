@@ -7,12 +7,8 @@ use lib.Seq.{drop-cons}
 use lib.IntN.{ℤ, pos}
 use Rattle.list_moves.proofs.Parts.{same16, Pasted, pasted_none, pasted_pre, get_or_paste_before}
 use native.Mathlib.Omega.{arith}
+use Rattle.list_moves.proofs.move_up.Invariants.{Inv}
 use Rattle.list_moves.proofs.move_up.Goals as goal
-
-record Inv (l : List ℤ) (from used by : ℕ) (list : List ℤ) (i : ℕ) : Type 0 where
-  low : from ≤ i
-  high : i ≤ used
-  done : Pasted l (i + by) (drop i l) (used - i) list
 
 start : (l : List ℤ) (from used by : ℕ) → from ≤ used → Inv l from used by l used
 start l from used by h = record { low = h; high = omega arith; done = pasted_none l (used + by) (drop used l) (used - used) (omega arith) }

@@ -8,6 +8,11 @@ use Rattle.list_moves.proofs.Parts.{same16, Pasted, pasted_none, pasted_pre, get
 use native.Mathlib.Omega.{arith}
 use Rattle.list_moves.proofs.move_up.Given as goal
 
+pub record Inv (l : List ℤ) (from used by : ℕ) (list : List ℤ) (i : ℕ) : Type 0 where
+  pub low : from ≤ i
+  pub high : i ≤ used
+  pub done : Pasted l (i + by) (drop i l) (used - i) list
+
 abbrev pub invariant-loop-i : goal.invariant-loop-i
 invariant-loop-i l = Inv l.initial.list l.from l.used l.by l.list l.i
 

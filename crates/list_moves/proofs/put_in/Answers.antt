@@ -7,11 +7,8 @@ use lib.ListN.{length, get_or, set}
 use lib.IntN.{ℤ, pos}
 use Rattle.list_moves.proofs.Parts.{same16, Pasted, pasted_none, pasted_more}
 use native.Mathlib.Omega.{arith}
+use Rattle.list_moves.proofs.put_in.Invariants.{Inv}
 use Rattle.list_moves.proofs.put_in.Goals as goal
-
-record Inv (l : List ℤ) (at : ℕ) (put : List ℤ) (n : ℕ) (list : List ℤ) (i : ℕ) : Type 0 where
-  high : i ≤ n
-  done : Pasted l at put i list
 
 start : (l : List ℤ) (at : ℕ) (put : List ℤ) (n : ℕ) → Inv l at put n l 0
 start l at put n = record { high = omega arith; done = pasted_none l at put 0 refl }
@@ -48,7 +45,7 @@ loop-i-smaller c = omega arith
 pub loop-i-preserved : goal.loop-i-preserved
 loop-i-preserved c =
     let l = c.before.before in
-    let e : length l.args.t3 ≡ 12 = search rules in
+    let e : length l.args.put ≡ 12 = search rules in
     rw (same16 c.x-1.given) (again l.requires.n_in_bounds (omega arith) l.loop-i.invariant c.loop-i-test.true)
 
 pub shape_of-list : goal.shape_of-list

@@ -7,6 +7,10 @@ use Rattle.list_moves.proofs.Parts.{same16, Pasted, pasted_none, pasted_more}
 use native.Mathlib.Omega.{arith}
 use Rattle.list_moves.proofs.put_in.Given as goal
 
+pub record Inv (l : List ℤ) (at : ℕ) (put : List ℤ) (n : ℕ) (list : List ℤ) (i : ℕ) : Type 0 where
+  pub high : i ≤ n
+  pub done : Pasted l at put i list
+
 abbrev pub invariant-loop-i : goal.invariant-loop-i
 invariant-loop-i l = Inv l.initial.list l.at l.put l.n l.list l.i
 

@@ -6,12 +6,8 @@ use lib.ListN.{length, get_or, set, replicate, length-replicate, get_or-replicat
 use lib.IntN.{ℤ, pos}
 use Rattle.list_moves.proofs.Parts.{Pasted, pasted_none, pasted_more}
 use native.Mathlib.Omega.{arith}
+use Rattle.list_moves.proofs.wipe.Invariants.{Inv}
 use Rattle.list_moves.proofs.wipe.Goals as goal
-
-record Inv (l : List ℤ) (from to : ℕ) (list : List ℤ) (i : ℕ) : Type 0 where
-  low : from ≤ i
-  high : i ≤ to
-  done : Pasted l from (replicate (to - from) (pos 0)) (i - from) list
 
 start : (l : List ℤ) (from to : ℕ) → from ≤ to → Inv l from to l from
 start l from to h = record { low = omega arith; high = h; done = pasted_none l from (replicate (to - from) (pos 0)) (from - from) (omega arith) }

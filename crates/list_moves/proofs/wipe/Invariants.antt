@@ -7,6 +7,11 @@ use Rattle.list_moves.proofs.Parts.{Pasted, pasted_none, pasted_more}
 use native.Mathlib.Omega.{arith}
 use Rattle.list_moves.proofs.wipe.Given as goal
 
+pub record Inv (l : List ℤ) (from to : ℕ) (list : List ℤ) (i : ℕ) : Type 0 where
+  pub low : from ≤ i
+  pub high : i ≤ to
+  pub done : Pasted l from (replicate (to - from) (pos 0)) (i - from) list
+
 abbrev pub invariant-loop-i : goal.invariant-loop-i
 invariant-loop-i l = Inv l.initial.list l.from l.to l.list l.i
 
