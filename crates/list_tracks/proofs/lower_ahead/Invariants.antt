@@ -1,0 +1,15 @@
+use Prim.Native.Nat.{◌-◌, ◌≤◌}
+use native.Mathlib.Omega.{arith}
+use mir.Syntax.{w32}
+use mir.Val.{to_z}
+use mir.Facts.{to_z-of_z}
+use Rattle.theory_signed.proofs.Laws.{signed}
+use Rattle.list_rules.specs.Inner.{track_no}
+use Rattle.list_tracks.proofs.Sorted.{sorted, Halving, go_up, go_down, found}
+use Rattle.list_tracks.proofs.lower_ahead.Given as goal
+
+abbrev pub invariant-loop-k : goal.invariant-loop-k
+invariant-loop-k l = (l.from ≤ l.k) × Halving (track_no l.list) l.used l.x l.k l.used
+
+abbrev pub decreases-loop-k : goal.decreases-loop-k
+decreases-loop-k l = l.used - l.k

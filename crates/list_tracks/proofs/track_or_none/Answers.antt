@@ -1,0 +1,15 @@
+-- `tracks::track_or_none`. Assumes nothing.
+use mathlib.Core.Path.{refl}
+use native.Mathlib.Omega.{arith}
+use mir.Facts.{to_z-of_z}
+use Rattle.list_tracks.proofs.Standing.{stands_part}
+use borrow.Author.Rules.{rules}
+use Rattle.list_tracks.proofs.track_or_none.Goals as goal
+
+pub overflow_add-end : goal.overflow_add-end
+overflow_add-end c = omega (arith, c.place_or_none-place.ensures.inside)
+
+pub returns : goal.returns
+returns c =
+    let a = c.before.before in
+    stands_part (rw (to_z-of_z a.ranges.track) at a.place_or_none-place.ensures) refl

@@ -1,0 +1,23 @@
+-- `tracks::track_part`. Assumes nothing.
+use mathlib.Core.Path.{refl, sym, subst}
+use mathlib.Core.List.{List}
+use native.Mathlib.Omega.{arith}
+use lib.IntN.{ℤ}
+use mir.Facts.{to_z-of_z}
+use Rattle.list_rules.specs.Inner.{Part}
+use Rattle.list_tracks.proofs.Standing.{stands_part}
+use borrow.Author.Rules.{rules}
+use Rattle.list_tracks.proofs.track_part.Goals as goal
+
+pub overflow_add-end : goal.overflow_add-end
+overflow_add-end c = omega (arith, c.place_in-place.ensures.stands.inside)
+
+pub returns : goal.returns
+returns c =
+    let a = c.before.before in
+    let z = a.before in
+    let e = stands_part (rw (to_z-of_z z.ranges.track) at a.place_in-place.ensures.stands) refl in
+    record {
+      result_value = e;
+      part = subst (λ (r : List ℤ). Part z.args.list.now z.args.used z.args.track r) (sym e) (rw (to_z-of_z z.ranges.track) at a.place_in-place.ensures.part);
+    }
