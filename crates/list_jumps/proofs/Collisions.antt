@@ -71,7 +71,7 @@ extent_last (rec u c d s ∷ rs) t a b e h = go (test (same lt_z t u)) (λ k. ex
             record { from = c; has = subst (λ (w : ℤ). Has t c w (rec u c d s ∷ rs)) x.1 (subst (λ (w : ℤ). Has w c d (rec u c d s ∷ rs)) v here); before = o.0; past = let y = o.1 in let w = x.1 in omega signed }
 
 -- no record of the track overlaps
-pub extent_free : {rs : List (Rec ℤ)} {t c d : ℤ} (a b : ℤ) → Has t c d rs → extent_of (on_track t rs) a b ≡ X.Free → overlaps a b c d ≡ false
+pub extent_free : {t c d : ℤ} {rs : List (Rec ℤ)} (a b : ℤ) → Has t c d rs → extent_of (on_track t rs) a b ≡ X.Free → overlaps a b c d ≡ false
 extent_free {t = t} {c = c} {d = d} a b (here {s = s} {rs = rs}) h =
     let q : same lt_z t t ≡ true = rw (g_lt_false t t (omega signed)) in
     if_free (overlaps a b c d) d (or_else_free (extent_of (on_track t rs) a b) (cond (overlaps a b c d) (X.Ends d) X.Free) (rw q at h)).1

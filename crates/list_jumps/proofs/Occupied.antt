@@ -36,7 +36,7 @@ on (rec u c d s ∷ rs) t = go (test (same lt_z t u)) (on rs t)
     go (nay e) (clear x y) = clear (rw e x) (rw e y)
     go (nay e) (some x y m z) = some x y (there m) (rw e z)
 
-has_not_clear : {rs : List (Rec ℤ)} {t c d : ℤ} → Has t c d rs → on_track t rs ≡ [] → ⊥
+has_not_clear : {t c d : ℤ} {rs : List (Rec ℤ)} → Has t c d rs → on_track t rs ≡ [] → ⊥
 has_not_clear {t = t} (here {s = s} {rs = rs}) h =
     let q : same lt_z t t ≡ true = rw (g_lt_false t t (omega signed)) in
     let k = rw q at h in

@@ -12,71 +12,63 @@ use Rattle.theory_intervals.specs.Lists.{recs}
 use Rattle.list_jumps.specs.Calls.{extent_of}
 use Rattle.list_rules.specs.Inner.{start_no, end_no, Starting}
 use Rattle.list_jumps.proofs.LastOverlap.{extent_step, late_off, settled}
-use Rattle.list_jumps.proofs.collision_extent.Statement.{statement}
-use Rattle.list_jumps.proofs.collision_extent.Tie as tie
+use Rattle.list_jumps.proofs.collision_extent.Goals.{After-number-ends, After-starting_before-k, Start}
+use Rattle.list_jumps.proofs.collision_extent.Goals as goal
 
-starting-before-requires : tie.Need-starting-before-requires
-starting-before-requires c κs = c.requires
+pub starting_before-k-requires : goal.starting_before-k-requires
+starting_before-k-requires c = c.requires
 
 -- how many start before the end, and that the others don't count
-module _ (c : tie.After-starting-before) where
-  abbrev s : tie.Start
+module _ (c : After-starting_before-k) where
+  abbrev s : Start
   s = c.before
 
   abbrev k : ℕ
-  k = c.starting-before.result
+  k = c.starting_before-k.result
 
   split : Starting s.args.part.now (length s.args.part.now / 4) s.args.end k
-  split = rw (to_z-of_z s.fits.end) at c.starting-before.ensures
+  split = rw (to_z-of_z s.ranges.end) at c.starting_before-k.ensures
 
   front : extent_of (recs (length s.args.part.now / 4) s.args.part.now) s.args.start s.args.end ≡ extent_of (recs k s.args.part.now) s.args.start s.args.end
   front = late_off s.args.part.now s.args.start s.args.end k (length s.args.part.now / 4) split.within split.above
 
-returns : tie.Need-returns
-returns c =
+pub returns-then-k-eq0 : goal.returns-then-k-eq0
+returns-then-k-eq0 c =
     let a = c.before in
-    let e : k a ≡ 0 = c.if1.true in
+    let e : k a ≡ 0 = c.if-k-eq0.true in
     sym (front a ∙ ap (λ (m : ℕ). extent_of (recs m (s a).args.part.now) (s a).args.start (s a).args.end) e)
 
-sub_number : tie.Need-overflow-sub-number
-sub_number c = search rules
+pub overflow_mul-k : goal.overflow_mul-k
+overflow_mul-k c = omega (arith, (split c.before).within)
 
-mul-number : tie.Need-overflow-mul-number
-mul-number c = omega (arith, (split c.before).within)
+pub overflow_add-k : goal.overflow_add-k
+overflow_add-k c = omega (arith, (split c.before).within)
 
-add-number : tie.Need-overflow-add-number
-add-number c = omega (arith, (split c.before).within)
-
-number-requires : tie.Need-number-requires
-number-requires c κs = omega (arith, (split c.before).within, c.if1.false)
+pub number-ends-requires : goal.number-ends-requires
+number-ends-requires c = omega (arith, (split c.before).within, c.if-k-eq0.false)
 
 -- once the last of them is read
-module _ (c : tie.After-number) where
-  abbrev a : tie.After-starting-before
+module _ (c : After-number-ends) where
+  abbrev a : After-starting_before-k
   a = c.before.before
 
   abbrev j : ℕ
   j = k a - 1
 
   some : k a ≡ suc j
-  some = omega (arith, c.before.if1.false)
+  some = omega (arith, c.if-k-eq0.false)
 
-returns-2 : tie.Need-returns-2
-returns-2 c =
+pub returns-then-start-ends : goal.returns-then-start-ends
+returns-then-start-ends c =
     let n = c.before in
     let z = s (a n) in
     let l = z.args.part.now in
-    let e : to_z w16 (of_z w16 n.number.result) ≡ end_no l (j n) = omega signed in
+    let e : to_z w16 (of_z w16 n.number-ends.result) ≡ end_no l (j n) = omega signed in
     let b = (split (a n)).below (j n) (omega (arith, some n)) in
     rw (e, front (a n), extent_step l z.args.start z.args.end (k (a n)) (j n) (some n), g_lt_true (start_no l (j n)) z.args.end (omega signed), g_lt_true z.args.start (end_no l (j n)) (omega signed))
 
-returns-3 : tie.Need-returns-3
-returns-3 c =
+pub returns : goal.returns
+returns c =
     let n = c.before in
     let z = s (a n) in
-    sym (front (a n) ∙ settled z.pre z.args.start z.args.end (k (a n)) (j n) (some n) (omega (arith, some n, (split (a n)).within)) (omega signed))
-
-pub collision-extent-spec : {M : Type 1} → statement M
-collision-extent-spec =
-    tie.close
-    (tie.spec starting-before-requires returns sub_number mul-number add-number number-requires returns-2 returns-3)
+    sym (front (a n) ∙ settled z.requires z.args.start z.args.end (k (a n)) (j n) (some n) (omega (arith, some n, (split (a n)).within)) (omega signed))
