@@ -16,6 +16,7 @@ use Rattle.theory_walk.proofs.Tests.{and_true, Mem, top, under, which}
 upper : (z : ℤ) (ys : List ℤ) (y : ℤ) → Mem y (z ∷ ys) → y ≤ℤ largest z ys
 unfolding largest
 upper z [] y top = omega signed
+upper z [] y (under m) = elim m [ ]
 upper z (x ∷ xs) y top = by_test (lt_z y (largest x xs)) (λ b. y ≤ℤ cond b (largest x xs) y) (λ e. omega signed) (λ e. omega signed)
 upper z (x ∷ xs) y (under m) = let h = upper x xs y m in by_test (lt_z z (largest x xs)) (λ b. y ≤ℤ cond b (largest x xs) z) (λ e. h) (λ e. omega signed)
 
@@ -27,6 +28,7 @@ among z (x ∷ xs) = let h = among x xs in by_test (lt_z z (largest x xs)) (λ b
 -- THE LARGEST is what is among them and what none passes
 pub largest_is : (g : ℤ) (zs : List ℤ) (r : ℤ) → Mem r zs → ((z : ℤ) → Mem z zs → z ≤ℤ r) → largest_or g zs ≡ r
 unfolding largest_or
+largest_is g [] r m h = elim m [ ]
 largest_is g (z ∷ zs) r m h =
     let a = upper z zs r m in
     let b = h (largest z zs) (among z zs) in
@@ -50,6 +52,7 @@ deeper m = record { tile = m.tile; inside = under m.inside; step = m.step; key =
 
 pub ends_in : (p : Axis) (c : ℤ) (ts : List Tile) (z : ℤ) → Mem z (ends_on p c ts) → Match p c z ts
 unfolding ends_on
+ends_in p c [] z m = elim m [ ]
 ends_in p c (t ∷ ts) z m = go (λ k. ends_in p c ts z k) (eqb t.step 2 && eq_z (on (other p) t.area).start c) refl m
   where
     first : (eqb t.step 2 && eq_z (on (other p) t.area).start c) ≡ true → {l : List ℤ} → (Mem z l → Match p c z ts) → (z ≡ (on p t.area).end) ⊎ Mem z l → Match p c z (t ∷ ts)
@@ -60,7 +63,7 @@ ends_in p c (t ∷ ts) z m = go (λ k. ends_in p c ts z k) (eqb t.step 2 && eq_z
     go f true e k = first e f (which k)
     go f false e k = deeper (f k)
 
-pub ends_of : (p : Axis) (c : ℤ) {ts : List Tile} (t : Tile) → Mem t ts → t.step ≡ 2 → (on (other p) t.area).start ≡ c → Mem (on p t.area).end (ends_on p c ts)
+pub ends_of : (p : Axis) (c : ℤ) (t : Tile) {ts : List Tile} → Mem t ts → t.step ≡ 2 → (on (other p) t.area).start ≡ c → Mem (on p t.area).end (ends_on p c ts)
 unfolding ends_on
 ends_of p c t top e k =
     let i : eq_z (on (other p) t.area).start c ≡ true = eq_yes (on (other p) t.area).start c (omega signed) in

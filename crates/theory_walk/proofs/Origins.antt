@@ -14,7 +14,7 @@ use Rattle.theory_walk.specs.Search.{Place}
 use Rattle.theory_walk.specs.Walk.{Item, Queued, Tile, Board, Setting, Choice, Run, going, bit, free, tile_of, laid_on, step1, step2, step4, and_then, each, begin4, last4, walk}
 use Rattle.theory_walk.specs.Rules.{Rule, takes, finds, finds_line, finds_pair, lays_untested, mine1, wide, Settled, by1, by2, by4, Turn, passes, lays, full7, full8}
 use Rattle.theory_walk.proofs.Tests.{Every, nil, more, Mem, top, under}
-use Rattle.theory_walk.proofs.WalkLaws.{Clear, next, Kept, Least, least_none, least_laid, no_growth, kept_step1, kept_step2, kept_step4, kept_begin4, stay, never, Went, went, each_keeps}
+use Rattle.theory_walk.proofs.WalkLaws.{Clear, none, next, Kept, Least, least_none, least_laid, no_growth, kept_step1, kept_step2, kept_step4, kept_begin4, stay, never, Went, went, each_keeps}
 use Rattle.theory_walk.proofs.Ruled.{turn1, turn2, turn4}
 
 -- ---- the mark: "the sum of 1 pressed (limiting changed a line), 2 both axes fixed, 4 overwide"
@@ -144,16 +144,20 @@ pub data Before (x : Tile) (ts : List Tile) : List Tile → Type 0 where
   earlier : {y : Tile} {us : List Tile} → Before x ts us → Before x ts (y ∷ us)
 
 pub origin_of : {w : Setting} {once : Place} {c₀ : Both TrackCounts} {qs : List Queued} {x : Tile} {ts us : List Tile} → Origins w once c₀ qs us → Before x ts us → Origin w once c₀ qs x ts
+origin_of empty m = elim m [ ]
 origin_of (after o os) last = o
 origin_of (after o os) (earlier m) = origin_of os m
 
 pub clear_of : {x : Tile} {ts us : List Tile} → Clear us → Before x ts us → x.mark ≡ 0 → free ts x.area ≡ true
+clear_of none m = elim m [ ]
 clear_of (next f c) last = f
 clear_of (next f c) (earlier m) = clear_of c m
 
 -- "Items fixed in both axes take their lines", limited
 settled_fixed : {w : Setting} {once : Place} {t : Board} {p s : Lines} {h : Choice} → Settled w once t (Fixed p) (Fixed s) h → h.area ≡ laid w.axis p s
 settled_fixed (by1 takes) = refl
+settled_fixed (by2 f) = elim f [ ]
+settled_fixed (by4 f) = elim f [ ]
 
 pub fixed_takes : {w : Setting} {once : Place} {c₀ : Both TrackCounts} {qs : List Queued} {x : Tile} {ts : List Tile} (o : Origin w once c₀ qs x ts) (c d : Lines)
     → o.item.item ≡ record { columns = Fixed c; rows = Fixed d } → x.area ≡ record { columns = limited c; rows = limited d }

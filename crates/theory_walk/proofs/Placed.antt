@@ -196,6 +196,7 @@ queue_length (suc n) k xs = ap suc (queue_length n (suc k) xs)
 -- an item of the queue is the item of its index
 pub queue_item : (is : List ℕ) (xs : List Item) (q : Queued) → Mem q (queue is xs) → q.item ≡ get_or xs q.index (record { columns = Spanned 1; rows = Spanned 1 })
 unfolding queue
+queue_item [] xs q m = elim m [ ]
 queue_item (i ∷ is) xs q m = go (which m) (λ k. queue_item is xs q k)
   where
     go : (q ≡ record { index = i; item = get_or xs i (record { columns = Spanned 1; rows = Spanned 1 }) }) ⊎ Mem q (queue is xs)

@@ -6,7 +6,7 @@ use mathlib.Core.Option.{Option, none, some}
 use Prim.Native.Nat.{ℕ, zero, suc}
 use lib.IntN.{ℤ, pos, ◌+ℤ◌}
 use lib.Signed.{lt_z, ◌≤ℤ◌, ◌<ℤ◌}
-use Rattle.theory_signed.specs.Parts.{up, gap}
+use Rattle.theory_signed.specs.Parts.{gap}
 use Rattle.theory_signed.proofs.Laws.{signed, by_test, sum}
 use Rattle.theory_walk.specs.Search.{line_from, first_line, among, Place, at, or_else, pair_from, places_to, first_pair}
 use Rattle.theory_walk.specs.Rules.{FirstLine, FirstPair, Tried, here, later}
@@ -110,15 +110,15 @@ module _ (n : ℕ) (e g : ℤ) (ok : ℤ → ℤ → Bool) where
 
   -- steps of a search: the first place of this line on which the test passes
   pub pair_hit : (p s q : ℤ) → FirstLine (λ y. ok y s) p q → (q +ℤ pos n) ≤ℤ e → F p s (at q s)
-  pair_hit p s q f h = record { tried = here f.since h; passes = f.passes; above = λ y x t k. up t k; before = λ y t k. on t k }
+  pair_hit p s q f h = record { tried = here f.since h; passes = f.passes; above = λ y x t k. up t k; before = λ y t k. on y s refl t k }
     where
       up : {y x : ℤ} → T p s y x → x <ℤ s → ok y x ≡ false
       up (here a b) k = absurd (let z : ⊥ = omega signed in z)
       up (later a b c) k = absurd (let z : ⊥ = omega signed in z)
 
-      on : {y : ℤ} → T p s y s → y <ℤ q → ok y s ≡ false
-      on {y} (here a b) k = f.fails y a k
-      on (later a b c) k = absurd (let z : ⊥ = omega signed in z)
+      on : (y x : ℤ) → x ≡ s → T p s y x → y <ℤ q → ok y s ≡ false
+      on y x i (here a b) k = f.fails y a k
+      on y x i (later a b c) k = absurd (let z : ⊥ = omega signed in z)
 
   -- where no place of this line passes, the search goes on at g on the next
   pub pair_next : (p s : ℤ) (r : Place) → ((y : ℤ) → p ≤ℤ y → (y +ℤ pos n) ≤ℤ e → ok y s ≡ false) → F g (s +ℤ pos 1) r → F p s r

@@ -16,7 +16,7 @@ use Rattle.theory_walk.specs.Axis.{col, row, other, Both, on, Extent, pressed_ar
 use Rattle.theory_walk.specs.Search.{Place}
 use Rattle.theory_walk.specs.Walk.{Queued, Tile, Board, Setting, Choice, Run, going, stopped, bit, free, tile_of, laid_on, short, judged, put, choose1, step1, choose2, step2, choose_line, choose_pair, step4, and_then, each, begin4, last4, walk, records_on}
 use Rattle.theory_walk.specs.Rules.{Rule1, Rule2, Rule4, takes, finds, finds_line, finds_pair, lays_untested}
-use Rattle.theory_walk.proofs.Tests.{Every, nil, more, under}
+use Rattle.theory_walk.proofs.Tests.{Every, nil, more}
 use Rattle.theory_walk.proofs.LinesLaws.{area_limited, area_not_pressed, Each, CoversArea, GrowsBoth, covers_grows, grows_trans, grows_refl}
 use Rattle.theory_walk.proofs.FreeLaws.{Tiled, choose1_rule, choose2_rule, choose_line_rule, choose_pair_rule}
 
@@ -80,7 +80,7 @@ Fair t h = h.flags ≡ 0 → free t.tiles h.area ≡ true
 pub grows_both : (c : Both TrackCounts) (a : Extent) → GrowsBoth c (grown_both c a)
 grows_both c a = record { columns = grown_grows c.columns a.columns; rows = grown_grows c.rows a.rows }
 
-pub covered_grows : {ts : List Tile} (c d : Both TrackCounts) → GrowsBoth c d → Every (λ (t : Tile). CoversArea c t.area) ts → Every (λ (t : Tile). CoversArea d t.area) ts
+pub covered_grows : (c d : Both TrackCounts) → GrowsBoth c d → {ts : List Tile} → Every (λ (t : Tile). CoversArea c t.area) ts → Every (λ (t : Tile). CoversArea d t.area) ts
 covered_grows c d g nil = nil
 covered_grows c d g (more {x = t} h hs) =
     more (record { columns = covers_grows c.columns d.columns t.area.columns g.columns h.columns; rows = covers_grows c.rows d.rows t.area.rows g.rows h.rows })
