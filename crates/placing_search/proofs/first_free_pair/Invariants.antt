@@ -1,0 +1,50 @@
+use mathlib.Core.Path.{◌≡◌, refl, sym, ap, ◌∙◌}
+use mathlib.Core.Bool.{true}
+use mathlib.Core.List.{List}
+use borrow.Author.Tests.{eqb-true}
+use Prim.Native.Nat.{ℕ}
+use native.Mathlib.Omega.{arith}
+use lib.IntN.{ℤ, pos, negsuc, ◌+ℤ◌, ◌-ℤ◌}
+use lib.Signed.{◌≤ℤ◌}
+use mir.Syntax.{w16, w32}
+use mir.Val.{SFits, to_z, of_z}
+use mir.Facts.{to_z-of_z}
+use Rattle.theory_signed.specs.Parts.{gap}
+use Rattle.theory_signed.proofs.Laws.{signed, sum, rng, fit16}
+use Rattle.theory_intervals.specs.Records.{Rec}
+use Rattle.theory_intervals.specs.Lists.{recs, rules}
+use Rattle.list_jumps.specs.Calls.{collision_jump}
+use Rattle.list_rules.specs.Inner.{Front, Split, Crosses}
+use Rattle.list_rules.proofs.ByIndex.{holds_front}
+use Rattle.list_tracks.proofs.Sorted.{split_as}
+use Rattle.theory_walk.specs.Search.{at}
+use Rattle.placing_search.specs.Clear.{Inside}
+use Rattle.placing_search.proofs.Turns.{pair_found, Along, pair_here, pair_on_lem, pair_down, pair_within, stripe_found}
+use Rattle.placing_search.proofs.first_free_pair.Given as goal
+
+-- z is a 16-bit number, and small enough for a span to be added to it
+abbrev pub Small : ℤ → ℤ → Type 0
+Small z high = (negsuc 32767 ≤ℤ z) × (z ≤ℤ high)
+
+-- the records on the tracks that a tile on secondary line s crosses are those from `first` up to `past`
+abbrev pub Across : List ℤ → ℕ → ℤ → ℕ → ℕ → ℕ → Type 0
+Across list used s height first past = Split list used s first × Split list used (s +ℤ pos height) past
+
+abbrev pub invariant-loop-primary : goal.invariant-loop-primary
+invariant-loop-primary l = Small l.primary (pos 20000)
+    × (pair_found (recs l.used l.list) l.primary_span l.secondary_span l.grid_start l.grid_end l.initial.primary l.secondary
+    ≡ pair_found (recs l.used l.list) l.primary_span l.secondary_span l.grid_start l.grid_end l.primary l.secondary)
+
+abbrev pub decreases-loop-primary : goal.decreases-loop-primary
+decreases-loop-primary l = gap l.primary (pos 10000)
+
+abbrev pub invariant-search : goal.invariant-search
+invariant-search l = Small l.primary (pos 20000)
+    × Small l.secondary (pos 12001)
+    × (pair_found (recs l.used l.list) l.primary_span l.secondary_span l.grid_start l.grid_end l.initial.primary l.initial.secondary
+    ≡ pair_found (recs l.used l.list) l.primary_span l.secondary_span l.grid_start l.grid_end l.primary l.secondary)
+    × Across l.list l.used l.secondary l.secondary_span l.first l.past
+
+-- every secondary line from 10000 on is clear, and the start may stand past 10000
+abbrev pub decreases-search : goal.decreases-search
+decreases-search l = gap l.secondary (pos 12001)
