@@ -25,7 +25,7 @@ use Rattle.theory_walk.specs.Axis.{Axis, col, row, other, Both, on, laid, from, 
 use Rattle.theory_walk.specs.Search.{Place}
 use Rattle.theory_walk.specs.Walk.{Item, Tile, Board, Setting, Choice, Run, going, stopped, bit, tile_of, records_on, start2, free_at, start4, free_across, free_pair, overwide, untested}
 use Rattle.theory_walk.specs.Request.{Request, Refusal, Outcome, refused, answered, Half, half, checked, halves, placing_of, item_of, item_count, setting_of, up_to, items_of, queue_of, start_of, growth_of, run_of, numbers, answer_of, answers_of, outcome, answers_left, rows_left, columns_left}
-use Rattle.theory_walk.specs.Rules.{FirstLine, FirstPair, finds, finds_line, finds_pair, lays_untested, mine1, wide, Settled, by2, by4, Walked, Full}
+use Rattle.theory_walk.specs.Rules.{FirstLine, FirstPair, finds, finds_line, finds_pair, lays_untested, mine1, wide, Settled, by1, by2, by4, Walked, Full}
 use Rattle.theory_walk.proofs.Tests.{Every, nil, more}
 use Rattle.theory_walk.proofs.LinesLaws.{GrowsBoth, CoversArea}
 use Rattle.theory_walk.proofs.WalkLaws.{Least, WithStates}
@@ -146,12 +146,18 @@ pub data OnNeither (w : Setting) (t : Board) (n m : ℕ) (a : Extent) : Type 0 w
       → a ≡ laid w.axis (from (untested w t).primary n) (from (untested w t).secondary m) → OnNeither w t n m a
 
 by_secondary : {w : Setting} {once : Place} {t : Board} {n : ℕ} {s : Lines} {h : Choice} → Settled w once t (Spanned n) (Fixed s) h → OnSecondary w t n s h.area
+by_secondary (by1 x) = elim x [ ]
+by_secondary (by4 x) = elim x [ ]
 by_secondary (by2 (finds {z} f)) = record { line = z; first = f; area = refl }
 
 by_primary : {w : Setting} {once : Place} {t : Board} {p : Lines} {m : ℕ} {h : Choice} → Settled w once t (Fixed p) (Spanned m) h → OnPrimary w t p m h.area
+by_primary (by1 x) = elim x [ ]
+by_primary (by2 x) = elim x [ ]
 by_primary (by4 (finds_line {z} f)) = record { line = z; first = f; area = refl }
 
 by_neither : {w : Setting} {once : Place} {t : Board} {n m : ℕ} {h : Choice} → Settled w once t (Spanned n) (Spanned m) h → OnNeither w t n m h.area
+by_neither (by1 x) = elim x [ ]
+by_neither (by2 x) = elim x [ ]
 by_neither (by4 (finds_pair {y} {x} e f)) = first_pair_lem y x e f refl
 by_neither (by4 (lays_untested e)) = laid_there e refl
 
