@@ -1,13 +1,13 @@
 -- What `omega signed` proves, each as a theorem.
 use mathlib.Core.Path.{◌≡◌, refl}
 use mathlib.Core.Bool.{true, false}
-use Prim.Native.Nat.{ℕ, ◌+◌, ◌≤◌, ◌<◌}
+use Prim.Native.Nat.{ℕ}
 use lib.IntN.{ℤ, pos, negsuc, neg_ℤ, ◌+ℤ◌, ◌-ℤ◌, ◌*ℤ◌}
 use lib.Signed.{lt_z, le_z, ◌≤ℤ◌, ◌<ℤ◌}
 use mir.Syntax.{w16, w32}
 use mir.Val.{SFits, to_z, of_z}
-use Rattle.theory_signed.specs.Parts.{up, dn, eq_z}
-use Rattle.theory_signed.proofs.Laws.{signed, rng, sum, dif, apart, of_ne}
+use Rattle.theory_signed.specs.Parts.{up, eq_z}
+use Rattle.theory_signed.proofs.Laws.{signed, rng, dif, apart, of_ne}
 
 literal : neg_ℤ (pos 10000) ≡ negsuc 9999
 literal = refl
