@@ -1,7 +1,7 @@
 -- Clamping, read by `omega`: one linear equation.
 use mathlib.Core.Path.{◌≡◌}
 use mathlib.Core.Bool.{cond}
-use Prim.Native.Nat.{ℕ, ◌+◌, ◌-◌, min}
+use Prim.Native.Nat.{◌+◌, ◌-◌, min}
 use lib.IntN.{ℤ, pos}
 use lib.Signed.{lt_z, ◌≤ℤ◌}
 use Rattle.theory_signed.specs.Parts.{up, dn}

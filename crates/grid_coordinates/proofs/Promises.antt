@@ -2,8 +2,8 @@
 use mathlib.Core.Path.{◌≡◌, refl, subst}
 use mathlib.Core.Bool.{Bool, true, false, cond, not, ◌&&◌}
 use lib.Dec.{T}
-use Prim.Native.Nat.{ℕ, ◌+◌}
-use lib.IntN.{ℤ, pos, negsuc, ◌+ℤ◌, ◌-ℤ◌}
+use Prim.Native.Nat.{ℕ}
+use lib.IntN.{ℤ, pos, ◌+ℤ◌, ◌-ℤ◌}
 use lib.Signed.{lt_z, le_z, ◌≤ℤ◌}
 use Rattle.theory_signed.specs.Parts.{eq_z}
 use Rattle.theory_signed.proofs.Laws.{signed, sum, dif, by_test, g_lt_true, g_lt_false, eq_yes, eq_of}

@@ -1,5 +1,4 @@
 -- `Lines::into_limited_grid` meets its contract: the two calls give the limited lines, and `==` on a line tells whether it changed.
-use borrow.Author.Rules.{rules}
 use mathlib.Core.Path.{◌≡◌, ◌∙◌}
 use mathlib.Core.Bool.{not, ◌&&◌}
 use lib.IntN.{ℤ, pos, ◌+ℤ◌}

@@ -1,5 +1,4 @@
 -- `OriginZeroLine::clamped` meets its contract: each return is a linear fact, by the test that led there and the law of clamping.
-use borrow.Author.Rules.{rules}
 use Rattle.theory_signed.proofs.Laws.{signed}
 use Rattle.grid_coordinates.proofs.Clamp.{grid_line}
 use Rattle.grid_coordinates.proofs.OriginZeroLine.clamped.Goals as goal
