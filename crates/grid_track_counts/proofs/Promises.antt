@@ -1,13 +1,13 @@
 -- What document 01 says of an axis's counts, as theorems about the definitions of specs/Counts.antt, which the functions' contracts cite.
 use mathlib.Core.Path.{◌≡◌, refl, subst, sym}
 use mathlib.Core.Bool.{Bool, true, false, ◌&&◌}
-use Prim.Native.Nat.{ℕ, ◌+◌, ◌≤◌, ◌*◌}
+use Prim.Native.Nat.{◌+◌, ◌≤◌, ◌*◌}
 use native.Mathlib.Omega.{arith}
 use borrow.Author.Tests.{leb-true}
 use lib.Dec.{T, leb}
 use lib.IntN.{ℤ, pos, ◌+ℤ◌, nat_abs}
 use lib.Signed.{◌≤ℤ◌, ◌<ℤ◌}
-use Rattle.theory_signed.proofs.Laws.{signed, neg, apart, by_test, g_lt_true, g_lt_false}
+use Rattle.theory_signed.proofs.Laws.{signed, neg, apart, g_lt_true, g_lt_false}
 use Rattle.grid_coordinates.specs.declared.Lines.{Lines}
 use Rattle.grid_coordinates.specs.Line.{Limited}
 use Rattle.grid_track_counts.specs.declared.TrackCounts.{TrackCounts}

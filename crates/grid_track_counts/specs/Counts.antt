@@ -1,5 +1,5 @@
 -- The counts of an axis. Document 01, "Numbers a request is made of" and "List calls and line conversions".
-use Rattle.std.specs.Prelude.{◌≡◌, Bool, cond, ◌&&◌, ℕ, ◌+◌, ◌-◌, ◌*◌, ◌≤◌, max, leb, ℤ, pos, neg_ℤ, nat_abs, ◌+ℤ◌, ◌≤ℤ◌}
+use Rattle.std.specs.Prelude.{◌≡◌, Bool, cond, ◌&&◌, ◌+◌, ◌-◌, ◌*◌, ◌≤◌, max, leb, ℤ, pos, neg_ℤ, nat_abs, ◌+ℤ◌, ◌≤ℤ◌}
 use Rattle.std.specs.Int.Signed.{lt_z}
 use Rattle.theory_signed.specs.Parts.{up, dn}
 use Rattle.grid_coordinates.specs.declared.Lines.{Lines}

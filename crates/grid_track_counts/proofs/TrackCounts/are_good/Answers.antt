@@ -1,5 +1,4 @@
 -- `TrackCounts::are_good` meets its contract.
-use borrow.Author.Rules.{rules}
 use borrow.Author.Tests.{le-leb, lt-leb}
 use Prim.Native.Nat.{◌+◌}
 use native.Mathlib.Omega.{arith}

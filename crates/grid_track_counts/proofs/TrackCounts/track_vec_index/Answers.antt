@@ -2,8 +2,7 @@
 use borrow.Author.Rules.{rules}
 use mathlib.Core.Path.{◌≡◌, ◌∙◌}
 use lib.Signed.{◌≤ℤ◌}
-use Prim.Native.Nat.{◌+◌}
-use lib.IntN.{ℤ, pos, neg_ℤ}
+use lib.IntN.{ℤ, pos}
 use mir.Syntax.{w16}
 use mir.Val.{SFits, to_z, of_z}
 use mir.Facts.{to_z-of_z}
