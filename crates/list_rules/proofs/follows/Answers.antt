@@ -8,7 +8,6 @@ use lib.IntN.{ℤ, pos}
 use lib.Signed.{◌<ℤ◌}
 use Rattle.list_rules.specs.Inner.{follow_at}
 use Rattle.theory_signed.proofs.Laws.{signed, g_lt_true, g_lt_false}
-use borrow.Author.Rules.{rules}
 use Rattle.list_rules.proofs.follows.Goals.{Start}
 use Rattle.list_rules.proofs.follows.Goals as goal
 

@@ -1,8 +1,7 @@
 -- `rules::front`: each record passed goes. Assumes nothing.
 use mathlib.Core.Path.{◌≡◌, subst}
-use Prim.Native.Nat.{ℕ, ◌-◌, ◌/◌, ◌≤◌}
+use Prim.Native.Nat.{ℕ, ◌/◌}
 use native.Mathlib.Omega.{arith}
-use borrow.Author.Rules.{rules}
 use lib.ListN.{length}
 use Rattle.list_rules.specs.Inner.{Goes, Front}
 use Rattle.list_rules.proofs.Turns.{front_none, front_more, says_past, says_not}

@@ -1,9 +1,5 @@
-use mathlib.Core.Path.{◌≡◌, subst}
-use Prim.Native.Nat.{ℕ, ◌-◌, ◌/◌, ◌≤◌}
-use native.Mathlib.Omega.{arith}
-use lib.ListN.{length}
-use Rattle.list_rules.specs.Inner.{Goes, Front}
-use Rattle.list_rules.proofs.Turns.{front_none, front_more, says_past, says_not}
+use Prim.Native.Nat.{◌-◌, ◌≤◌}
+use Rattle.list_rules.specs.Inner.{Front}
 use Rattle.list_rules.proofs.front.Given as goal
 
 abbrev pub invariant-loop-i : goal.invariant-loop-i

@@ -4,7 +4,6 @@ use Prim.Native.Nat.{◌*◌}
 use native.Mathlib.Omega.{arith}
 use Rattle.list_rules.specs.Inner.{GoodAt}
 use Rattle.list_rules.proofs.Turns.{says_past, says_not, goes_first, goes_next, goes_not}
-use borrow.Author.Rules.{rules}
 use Rattle.list_rules.proofs.goes.Goals.{Start}
 use Rattle.list_rules.proofs.goes.Goals as goal
 

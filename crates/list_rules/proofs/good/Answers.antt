@@ -1,6 +1,5 @@
 -- `rules::good`: each test is a linear fact. Assumes nothing.
 use Rattle.theory_signed.proofs.Laws.{signed}
-use borrow.Author.Rules.{rules}
 use Rattle.list_rules.proofs.good.Goals as goal
 
 pub returns-then-track-ltminus10000 : goal.returns-then-track-ltminus10000

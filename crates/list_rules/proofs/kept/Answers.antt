@@ -4,7 +4,6 @@ use Prim.Native.Nat.{◌*◌}
 use Rattle.list_rules.specs.Inner.{Zeros}
 use Rattle.list_rules.proofs.ByIndex.{both_kept, front_broken}
 use Rattle.list_rules.proofs.Turns.{says_yes, says_no}
-use borrow.Author.Rules.{rules}
 use Rattle.list_rules.proofs.kept.Goals.{After-front-n}
 use Rattle.list_rules.proofs.kept.Goals as goal
 

@@ -1,13 +1,7 @@
-use mathlib.Core.Path.{◌≡◌, ap}
-use mathlib.Core.List.{List}
+use mathlib.Core.Path.{◌≡◌}
 use Prim.Native.Nat.{ℕ, ◌-◌, ◌≤◌, ◌<◌}
-use native.Mathlib.Omega.{arith}
 use lib.ListN.{length, get_or}
-use lib.IntN.{ℤ, pos}
-use mir.Syntax.{w16}
-use mir.Val.{of_z}
-use Rattle.theory_signed.proofs.Laws.{fit16, same}
-use Rattle.list_rules.proofs.Turns.{zero_more}
+use lib.IntN.{pos}
 use Rattle.list_rules.proofs.zeros.Given as goal
 
 abbrev pub invariant-loop-i : goal.invariant-loop-i
