@@ -1,12 +1,9 @@
 -- `tracks::halved`: what is below lo is below x, what is from hi on is not. Assumes nothing.
-use Prim.Native.Nat.{ℕ, ◌+◌, ◌-◌, ◌/◌, ◌≤◌}
+use Prim.Native.Nat.{ℕ, ◌+◌, ◌-◌, ◌/◌}
 use native.Mathlib.Omega.{arith}
-use mir.Syntax.{w32}
-use mir.Val.{to_z}
 use mir.Facts.{to_z-of_z}
 use Rattle.theory_signed.proofs.Laws.{signed}
-use Rattle.list_rules.specs.Inner.{track_no}
-use Rattle.list_tracks.proofs.Sorted.{sorted, Halving, go_up, go_down, found}
+use Rattle.list_tracks.proofs.Sorted.{sorted, go_up, go_down, found}
 use Rattle.list_tracks.proofs.halved.Goals.{At-loop-lo}
 use Rattle.list_tracks.proofs.halved.Goals as goal
 

@@ -4,7 +4,6 @@ use native.Mathlib.Omega.{arith}
 use native.Mathlib.Decide.{dec_lt}
 use Rattle.theory_signed.proofs.Laws.{signed}
 use Rattle.list_tracks.proofs.Sorted.{sorted}
-use borrow.Author.Rules.{rules}
 use Rattle.list_tracks.proofs.last_begin.Goals.{After-track_back}
 use Rattle.list_tracks.proofs.last_begin.Goals as goal
 

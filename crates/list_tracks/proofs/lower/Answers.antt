@@ -1,5 +1,4 @@
 -- `tracks::lower`: where the last record is below x all are, and else the records are halved. Assumes nothing.
-use borrow.Author.Rules.{rules}
 use Prim.Native.Nat.{◌-◌}
 use native.Mathlib.Omega.{arith}
 use lib.Signed.{◌<ℤ◌}

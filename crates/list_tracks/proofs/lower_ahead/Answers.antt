@@ -1,12 +1,8 @@
 -- `tracks::lower_ahead`: what is before k is below x. Assumes nothing.
-use Prim.Native.Nat.{◌-◌, ◌≤◌}
 use native.Mathlib.Omega.{arith}
-use mir.Syntax.{w32}
-use mir.Val.{to_z}
 use mir.Facts.{to_z-of_z}
 use Rattle.theory_signed.proofs.Laws.{signed}
-use Rattle.list_rules.specs.Inner.{track_no}
-use Rattle.list_tracks.proofs.Sorted.{sorted, Halving, go_up, go_down, found}
+use Rattle.list_tracks.proofs.Sorted.{sorted, go_up, go_down, found}
 use Rattle.list_tracks.proofs.lower_ahead.Goals as goal
 
 pub loop-k-init : goal.loop-k-init

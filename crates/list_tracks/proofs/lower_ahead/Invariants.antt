@@ -1,11 +1,6 @@
 use Prim.Native.Nat.{◌-◌, ◌≤◌}
-use native.Mathlib.Omega.{arith}
-use mir.Syntax.{w32}
-use mir.Val.{to_z}
-use mir.Facts.{to_z-of_z}
-use Rattle.theory_signed.proofs.Laws.{signed}
 use Rattle.list_rules.specs.Inner.{track_no}
-use Rattle.list_tracks.proofs.Sorted.{sorted, Halving, go_up, go_down, found}
+use Rattle.list_tracks.proofs.Sorted.{Halving}
 use Rattle.list_tracks.proofs.lower_ahead.Given as goal
 
 abbrev pub invariant-loop-k : goal.invariant-loop-k

@@ -1,6 +1,5 @@
 -- `tracks::place_in`: two halving searches. Assumes nothing.
 use mathlib.Core.Path.{◌≡◌}
-use Prim.Native.Nat.{◌-◌}
 use native.Mathlib.Omega.{arith}
 use lib.IntN.{pos, ◌+ℤ◌}
 use mir.Syntax.{w16, w32}
@@ -11,7 +10,6 @@ use Rattle.theory_intervals.proofs.Lists.{holds_room}
 use Rattle.list_rules.proofs.ByIndex.{holds_front}
 use Rattle.list_tracks.proofs.Sorted.{split_as}
 use Rattle.list_tracks.proofs.Standing.{part_at, stands_empty, stands_some}
-use borrow.Author.Rules.{rules}
 use Rattle.list_tracks.proofs.place_in.Goals.{After-lower-a, After-lower-b}
 use Rattle.list_tracks.proofs.place_in.Goals as goal
 

@@ -6,7 +6,6 @@ use mir.Facts.{to_z-of_z}
 use Rattle.list_tracks.specs.Tracks.{Stands}
 use Rattle.list_tracks.proofs.Named.{records_holds, no_four, too_long, part_none, part_some}
 use Rattle.list_tracks.proofs.Standing.{stands_none}
-use borrow.Author.Rules.{rules}
 use Rattle.list_tracks.proofs.place_or_none.Goals as goal
 
 pub returns-then-list-ne0 : goal.returns-then-list-ne0

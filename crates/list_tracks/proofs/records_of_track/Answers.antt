@@ -2,7 +2,6 @@
 use mathlib.Core.Path.{◌∙◌}
 use mir.Facts.{to_z-of_z}
 use borrow.Author.Tests.{eq-eqb, ne_eqb}
-use borrow.Author.Rules.{rules}
 use Rattle.list_tracks.proofs.records_of_track.Goals as goal
 
 pub returns-then-axis-eq0 : goal.returns-then-axis-eq0

@@ -1,11 +1,9 @@
 -- `tracks::track_back`: record k is on the last record's track. Assumes nothing.
 use Prim.Native.Nat.{◌-◌, ◌<◌}
 use native.Mathlib.Omega.{arith}
-use lib.Signed.{◌≤ℤ◌}
 use Rattle.theory_signed.proofs.Laws.{signed}
 use Rattle.list_rules.specs.Inner.{track_no}
 use Rattle.list_tracks.proofs.Sorted.{not_first, split_between}
-use borrow.Author.Rules.{rules}
 use Rattle.list_tracks.proofs.track_back.Goals.{At-loop-to}
 use Rattle.list_tracks.proofs.track_back.Goals as goal
 

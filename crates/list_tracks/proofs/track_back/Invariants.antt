@@ -1,9 +1,6 @@
 use Prim.Native.Nat.{◌-◌, ◌<◌}
-use native.Mathlib.Omega.{arith}
 use lib.Signed.{◌≤ℤ◌}
-use Rattle.theory_signed.proofs.Laws.{signed}
 use Rattle.list_rules.specs.Inner.{track_no}
-use Rattle.list_tracks.proofs.Sorted.{not_first, split_between}
 use Rattle.list_tracks.proofs.track_back.Given as goal
 
 abbrev pub invariant-loop-to : goal.invariant-loop-to

@@ -3,7 +3,6 @@ use mathlib.Core.Path.{refl}
 use native.Mathlib.Omega.{arith}
 use mir.Facts.{to_z-of_z}
 use Rattle.list_tracks.proofs.Standing.{stands_part}
-use borrow.Author.Rules.{rules}
 use Rattle.list_tracks.proofs.track_or_none.Goals as goal
 
 pub overflow_add-end : goal.overflow_add-end

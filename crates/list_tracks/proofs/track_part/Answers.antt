@@ -6,7 +6,6 @@ use lib.IntN.{ℤ}
 use mir.Facts.{to_z-of_z}
 use Rattle.list_rules.specs.Inner.{Part}
 use Rattle.list_tracks.proofs.Standing.{stands_part}
-use borrow.Author.Rules.{rules}
 use Rattle.list_tracks.proofs.track_part.Goals as goal
 
 pub overflow_add-end : goal.overflow_add-end

@@ -3,7 +3,6 @@ use mathlib.Core.Path.{refl}
 use mir.Facts.{to_z-of_z}
 use borrow.Author.Tests.{eq-eqb, ne_eqb}
 use Rattle.list_tracks.proofs.Standing.{stands_none}
-use borrow.Author.Rules.{rules}
 use Rattle.list_tracks.proofs.track_place.Goals as goal
 
 pub returns-then-axis-eq0 : goal.returns-then-axis-eq0
