@@ -1,7 +1,7 @@
 -- The collision jump as the largest end: on a track no record that overlaps ends later than the last one, so over all crossed tracks the jump is the
 -- largest end of all records that overlap, in whatever order they are looked at.
 use mathlib.Core.Path.{◌≡◌, refl, sym, ap, ◌∙◌, subst}
-use mathlib.Core.Bool.{Bool, true, false, cond, ◌&&◌, ◌||◌}
+use mathlib.Core.Bool.{true, cond, ◌&&◌}
 use mathlib.Core.List.{List, [], ◌∷◌}
 use mathlib.Core.Logic.{◌⊎◌, inl, inr}
 use Prim.Native.Nat.{ℕ, zero, suc, ◌<◌, ◌≤◌}
@@ -19,7 +19,7 @@ use Rattle.theory_intervals.proofs.Paint.{mem}
 use Rattle.theory_intervals.specs.OverInt.{ok, keeps, span}
 use Rattle.theory_intervals.proofs.OverInt.{span_is}
 use Rattle.theory_intervals.specs.Lists.{all_in, recs, on_track}
-use Rattle.list_jumps.specs.Calls.{overlaps, or_else, extent_of, larger, over, collision_jump}
+use Rattle.list_jumps.specs.Calls.{overlaps, extent_of, larger, over, collision_jump}
 use Rattle.list_rules.specs.Inner.{track_no, start_no, end_no, state_no, Crosses}
 use Rattle.list_jumps.specs.declared.Extent.{Extent}
 use Rattle.list_jumps.specs.declared.Extent.TheVariants as X

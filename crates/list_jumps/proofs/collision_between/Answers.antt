@@ -1,5 +1,4 @@
 -- `jumps::collision_between`: by one look or by tracks, the same jump. Assumes nothing.
-use borrow.Author.Rules.{rules}
 use native.Mathlib.Omega.{arith}
 use mir.Facts.{to_z-of_z}
 use Rattle.list_rules.proofs.ByIndex.{holds_front}

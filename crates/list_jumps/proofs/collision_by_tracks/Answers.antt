@@ -1,7 +1,6 @@
 -- `jumps::collision_by_tracks`: the jump over the tracks that were looked at, from behind. Assumes nothing.
 use mathlib.Core.Path.{ap, ◌∙◌}
 use mathlib.Core.List.{List}
-use Prim.Native.Nat.{◌≤◌}
 use native.Mathlib.Omega.{arith}
 use lib.IntN.{ℤ}
 use mir.Syntax.{w16}
@@ -14,7 +13,6 @@ use Rattle.list_jumps.specs.declared.Extent.{Extent}
 use Rattle.list_rules.proofs.ByIndex.{holds_front}
 use Rattle.list_jumps.proofs.LastOverlap.{part_ascends}
 use Rattle.list_jumps.proofs.Crossed.{in_order, SoFar, start_far, next_before, next_front, next_part, next_at, next_less, next_far, all_far}
-use borrow.Author.Rules.{rules}
 use Rattle.list_jumps.proofs.collision_by_tracks.Goals.{In-loop-k, Start}
 use Rattle.list_jumps.proofs.collision_by_tracks.Goals as goal
 

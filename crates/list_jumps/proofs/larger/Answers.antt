@@ -4,7 +4,6 @@ use mir.Facts.{to_z-of_z}
 use Rattle.theory_signed.proofs.Laws.{signed, fit16}
 use Rattle.list_jumps.specs.declared.Jump.TheVariants.{Next}
 use Rattle.list_jumps.proofs.Crossed.{larger_jump, larger_extent, larger_only}
-use borrow.Author.Rules.{rules}
 use Rattle.list_jumps.proofs.larger.Goals as goal
 
 pub returns-then-e-f : goal.returns-then-e-f

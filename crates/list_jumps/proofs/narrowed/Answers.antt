@@ -1,13 +1,9 @@
 -- `jumps::narrowed`: what is below lo starts before the line, what is from hi on does not. Assumes nothing.
 use Prim.Native.Nat.{ℕ, ◌+◌, ◌-◌, ◌/◌}
 use native.Mathlib.Omega.{arith}
-use lib.ListN.{length}
-use mir.Syntax.{w16}
-use mir.Val.{to_z}
 use mir.Facts.{to_z-of_z}
 use Rattle.theory_signed.proofs.Laws.{signed}
-use Rattle.list_rules.specs.Inner.{start_no}
-use Rattle.list_tracks.proofs.Sorted.{Halving, go_up, go_down, bounded}
+use Rattle.list_tracks.proofs.Sorted.{go_up, go_down, bounded}
 use Rattle.list_jumps.proofs.LastOverlap.{starts_rise}
 use Rattle.list_jumps.proofs.narrowed.Goals.{At-loop-hi}
 use Rattle.list_jumps.proofs.narrowed.Goals as goal

@@ -13,7 +13,6 @@ use Rattle.theory_intervals.proofs.Lists.{holds_room}
 use Rattle.list_rules.proofs.ByIndex.{holds_front}
 use Rattle.list_tracks.proofs.Sorted.{sorted, split_as}
 use Rattle.list_jumps.proofs.Crossed.{occupied_none, occupied_some}
-use borrow.Author.Rules.{rules}
 use Rattle.list_jumps.proofs.occupied_track_jump.Goals.{After-lower-k}
 use Rattle.list_jumps.proofs.occupied_track_jump.Goals as goal
 
