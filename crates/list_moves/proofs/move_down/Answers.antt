@@ -5,7 +5,7 @@ use mathlib.Core.List.{List}
 use lib.ListN.{length, drop, get_or, set, length-drop}
 use lib.Seq.{get_or-drop}
 use lib.IntN.{ℤ, pos}
-use Rattle.list_moves.proofs.Parts.{same16, Pasted, pasted_none, pasted_more, get_or_paste_past}
+use Rattle.list_moves.proofs.Parts.{same16, pasted_none, pasted_more, get_or_paste_past}
 use native.Mathlib.Omega.{arith}
 use Rattle.list_moves.proofs.move_down.Invariants.{Inv}
 use Rattle.list_moves.proofs.move_down.Goals as goal

@@ -1,11 +1,8 @@
-use Prim.Native.Nat.{ℕ, ◌≤◌, ◌<◌, ◌+◌, ◌-◌}
-use mathlib.Core.Path.{◌≡◌, sym, ap, ◌∙◌}
+use Prim.Native.Nat.{ℕ, ◌≤◌, ◌-◌}
 use mathlib.Core.List.{List}
-use lib.ListN.{length, drop, get_or, set, length-drop}
-use lib.Seq.{get_or-drop}
-use lib.IntN.{ℤ, pos}
-use Rattle.list_moves.proofs.Parts.{same16, Pasted, pasted_none, pasted_more, get_or_paste_past}
-use native.Mathlib.Omega.{arith}
+use lib.ListN.{drop}
+use lib.IntN.{ℤ}
+use Rattle.list_moves.proofs.Parts.{Pasted}
 use Rattle.list_moves.proofs.move_down.Given as goal
 
 pub record Inv (l : List ℤ) (from used by : ℕ) (list : List ℤ) (i : ℕ) : Type 0 where

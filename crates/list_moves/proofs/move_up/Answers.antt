@@ -5,7 +5,7 @@ use mathlib.Core.List.{List, ◌∷◌}
 use lib.ListN.{length, drop, get_or, set}
 use lib.Seq.{drop-cons}
 use lib.IntN.{ℤ, pos}
-use Rattle.list_moves.proofs.Parts.{same16, Pasted, pasted_none, pasted_pre, get_or_paste_before}
+use Rattle.list_moves.proofs.Parts.{same16, pasted_none, pasted_pre, get_or_paste_before}
 use native.Mathlib.Omega.{arith}
 use Rattle.list_moves.proofs.move_up.Invariants.{Inv}
 use Rattle.list_moves.proofs.move_up.Goals as goal

@@ -1,11 +1,11 @@
 -- `put_in` meets its contract. The first i numbers are stored already.
 use borrow.Author.Rules.{rules}
-use Prim.Native.Nat.{ℕ, ◌≤◌, ◌<◌, ◌+◌, ◌-◌}
+use Prim.Native.Nat.{ℕ, ◌≤◌, ◌<◌, ◌+◌}
 use mathlib.Core.Path.{◌≡◌, refl}
 use mathlib.Core.List.{List}
 use lib.ListN.{length, get_or, set}
 use lib.IntN.{ℤ, pos}
-use Rattle.list_moves.proofs.Parts.{same16, Pasted, pasted_none, pasted_more}
+use Rattle.list_moves.proofs.Parts.{same16, pasted_none, pasted_more}
 use native.Mathlib.Omega.{arith}
 use Rattle.list_moves.proofs.put_in.Invariants.{Inv}
 use Rattle.list_moves.proofs.put_in.Goals as goal

@@ -1,10 +1,7 @@
-use Prim.Native.Nat.{ℕ, ◌≤◌, ◌<◌, ◌+◌, ◌-◌}
-use mathlib.Core.Path.{◌≡◌, refl}
+use Prim.Native.Nat.{ℕ, ◌≤◌, ◌-◌}
 use mathlib.Core.List.{List}
-use lib.ListN.{length, get_or, set}
-use lib.IntN.{ℤ, pos}
-use Rattle.list_moves.proofs.Parts.{same16, Pasted, pasted_none, pasted_more}
-use native.Mathlib.Omega.{arith}
+use lib.IntN.{ℤ}
+use Rattle.list_moves.proofs.Parts.{Pasted}
 use Rattle.list_moves.proofs.put_in.Given as goal
 
 pub record Inv (l : List ℤ) (at : ℕ) (put : List ℤ) (n : ℕ) (list : List ℤ) (i : ℕ) : Type 0 where

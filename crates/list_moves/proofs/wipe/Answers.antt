@@ -4,7 +4,7 @@ use mathlib.Core.Path.{◌≡◌, sym}
 use mathlib.Core.List.{List}
 use lib.ListN.{length, get_or, set, replicate, length-replicate, get_or-replicate}
 use lib.IntN.{ℤ, pos}
-use Rattle.list_moves.proofs.Parts.{Pasted, pasted_none, pasted_more}
+use Rattle.list_moves.proofs.Parts.{pasted_none, pasted_more}
 use native.Mathlib.Omega.{arith}
 use Rattle.list_moves.proofs.wipe.Invariants.{Inv}
 use Rattle.list_moves.proofs.wipe.Goals as goal

@@ -1,10 +1,8 @@
-use Prim.Native.Nat.{ℕ, ◌≤◌, ◌<◌, ◌+◌, ◌-◌}
-use mathlib.Core.Path.{◌≡◌, sym}
+use Prim.Native.Nat.{ℕ, ◌≤◌, ◌-◌}
 use mathlib.Core.List.{List}
-use lib.ListN.{length, get_or, set, replicate, length-replicate, get_or-replicate}
+use lib.ListN.{replicate}
 use lib.IntN.{ℤ, pos}
-use Rattle.list_moves.proofs.Parts.{Pasted, pasted_none, pasted_more}
-use native.Mathlib.Omega.{arith}
+use Rattle.list_moves.proofs.Parts.{Pasted}
 use Rattle.list_moves.proofs.wipe.Given as goal
 
 pub record Inv (l : List ℤ) (from to : ℕ) (list : List ℤ) (i : ℕ) : Type 0 where
