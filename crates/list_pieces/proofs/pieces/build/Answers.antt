@@ -2,7 +2,6 @@
 use mathlib.Core.Path.{refl, sym, ◌∙◌}
 use native.Mathlib.Omega.{arith}
 use Rattle.list_pieces.proofs.Build.{b3, b2l, b2r, b1}
-use borrow.Author.Rules.{rules}
 use Rattle.list_pieces.proofs.pieces.build.Goals as goal
 
 pub returns-then-right_of : goal.returns-then-right_of

@@ -8,7 +8,6 @@ use lib.ListN.{get_or}
 use Rattle.list_moves.specs.Fours.{fours, Four}
 use Rattle.list_pieces.specs.Reach.{Built}
 use Rattle.list_pieces.proofs.Build.{pieced, alone, plain}
-use borrow.Author.Rules.{rules}
 use Rattle.list_pieces.proofs.pieces.cut_out.Goals as goal
 
 pub returns-then-i-j : goal.returns-then-i-j

@@ -7,7 +7,6 @@ use mir.Val.{of_z}
 use Rattle.list_pieces.specs.Reach.{before_late, after_early, OnTrack}
 use Rattle.list_pieces.proofs.Bits.{last16, first16, piece16, on16}
 use Rattle.list_pieces.proofs.Found.{last_le, first_le}
-use borrow.Author.Rules.{rules}
 use Rattle.list_pieces.proofs.pieces.cut_track.Goals.{After-after_early-first, After-before_late-past}
 use Rattle.list_pieces.proofs.pieces.cut_track.Goals as goal
 

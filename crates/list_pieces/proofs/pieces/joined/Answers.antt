@@ -2,7 +2,6 @@
 use mathlib.Core.Path.{◌≡◌, refl, sym, ◌∙◌}
 use mathlib.Core.Bool.{Bool, true, false, not}
 use native.Mathlib.Omega.{arith}
-use borrow.Author.Rules.{rules}
 use mir.Facts.{to_z-of_z}
 use Rattle.theory_intervals.proofs.Line.{no_both}
 use Rattle.list_pieces.proofs.Build.{pieced, one_alone, one_piece}

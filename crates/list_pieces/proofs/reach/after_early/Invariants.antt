@@ -1,11 +1,8 @@
-use mathlib.Core.Path.{◌≡◌, refl, sym, ap, ◌∙◌}
-use Prim.Native.Nat.{◌-◌, ◌≤◌}
-use native.Mathlib.Omega.{arith}
+use mathlib.Core.Path.{◌≡◌}
+use Prim.Native.Nat.{◌≤◌}
 use mir.Syntax.{w16}
-use mir.Val.{to_z, of_z}
-use mir.Facts.{to_z-of_z}
+use mir.Val.{of_z}
 use Rattle.list_pieces.specs.Reach.{after_early}
-use Rattle.list_pieces.proofs.Bits.{first_yes, first_no}
 use Rattle.list_pieces.proofs.reach.after_early.Given as goal
 
 abbrev pub invariant-loop-i : goal.invariant-loop-i

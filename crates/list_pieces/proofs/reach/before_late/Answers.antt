@@ -1,13 +1,12 @@
 -- `before_late` meets its contract.
 use mathlib.Core.Path.{◌≡◌, refl, sym, ap, ◌∙◌}
-use Prim.Native.Nat.{◌-◌, ◌≤◌}
+use Prim.Native.Nat.{◌-◌}
 use native.Mathlib.Omega.{arith}
 use mir.Syntax.{w16}
 use mir.Val.{to_z, of_z}
 use mir.Facts.{to_z-of_z}
 use Rattle.list_pieces.specs.Reach.{before_late}
 use Rattle.list_pieces.proofs.Bits.{last_yes, last_no}
-use borrow.Author.Rules.{rules}
 use Rattle.list_pieces.proofs.reach.before_late.Goals as goal
 
 pub loop-i-init : goal.loop-i-init

@@ -4,7 +4,6 @@ use mathlib.Core.Bool.{true, false}
 use mir.Facts.{to_z-of_z}
 use Rattle.theory_intervals.specs.Paint.{pt}
 use Rattle.theory_intervals.specs.Cut.{lx}
-use borrow.Author.Rules.{rules}
 use Rattle.list_pieces.proofs.reach.gap.Goals as goal
 
 pub returns-then-before : goal.returns-then-before

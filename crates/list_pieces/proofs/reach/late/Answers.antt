@@ -9,7 +9,6 @@ use mir.Facts.{to_z-of_z}
 use Rattle.theory_intervals.specs.Paint.{pt}
 use Rattle.theory_intervals.specs.Cut.{gapb, lx}
 use Rattle.list_moves.proofs.Parts.{same16}
-use borrow.Author.Rules.{rules}
 use Rattle.list_pieces.proofs.reach.late.Goals as goal
 
 pub returns : goal.returns
