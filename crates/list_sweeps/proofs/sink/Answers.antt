@@ -2,7 +2,6 @@
 use Prim.Native.Nat.{◌-◌}
 use native.Mathlib.Omega.{arith}
 use Rattle.list_sweeps.proofs.Moves.{paste_self}
-use borrow.Author.Rules.{rules}
 use Rattle.list_sweeps.proofs.sink.Goals as goal
 
 pub returns-then-by-eq0 : goal.returns-then-by-eq0

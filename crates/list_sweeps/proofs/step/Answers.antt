@@ -6,7 +6,6 @@ use mir.Val.{of_z}
 use Rattle.list_pieces.specs.Reach.{Reaches}
 use Rattle.list_pieces.proofs.Bits.{reaches16, apart16}
 use Rattle.list_sweeps.proofs.Moves.{Within, s_apart, s_within, up_long, left_alone, fits, painted_up}
-use borrow.Author.Rules.{rules}
 use Rattle.list_sweeps.proofs.step.Goals.{After-cut_track-found, Then-wanted}
 use Rattle.list_sweeps.proofs.step.Goals as goal
 

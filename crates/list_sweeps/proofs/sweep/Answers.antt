@@ -1,14 +1,10 @@
 -- `sweep` meets its contract. The tracks from `t` on are swept already (`SInv`).
 use native.Mathlib.Omega.{arith}
-use mir.Syntax.{w16}
-use mir.Val.{to_z}
 use mir.Facts.{to_z-of_z}
-use Rattle.theory_signed.specs.Parts.{gap}
 use Rattle.theory_signed.proofs.Laws.{signed, rng}
 use Rattle.list_pieces.proofs.Bits.{ζ, good_back, lt16_back}
-use Rattle.list_sweeps.proofs.Sweeping.{Lifted, lifted, SInv, s_start, s_late, s_room, s_next, down_long}
+use Rattle.list_sweeps.proofs.Sweeping.{Lifted, lifted, s_start, s_late, s_room, s_next, down_long}
 use Rattle.list_sweeps.proofs.Swept.{s_done, s_tail, roomy_back, swept_plain, tail_back, tail_plain}
-use borrow.Author.Rules.{rules}
 use Rattle.list_sweeps.proofs.sweep.Goals.{After-lift}
 use Rattle.list_sweeps.proofs.sweep.Goals as goal
 

@@ -1,5 +1,4 @@
 -- `wanted` meets its contract.
-use borrow.Author.Rules.{rules}
 use Rattle.list_sweeps.proofs.wanted.Goals as goal
 
 pub returns : goal.returns
