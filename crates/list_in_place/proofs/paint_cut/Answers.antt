@@ -12,7 +12,6 @@ use Rattle.list_pieces.specs.Passes.{InPlace}
 use Rattle.list_pieces.proofs.Bits.{reaches16, apart16}
 use Rattle.list_sweeps.proofs.Moves.{s_apart}
 use Rattle.list_in_place.proofs.InPlace.{p_low, p_high, p_few, x_long, grown_is, shrunk_is, placed}
-use borrow.Author.Rules.{rules}
 use Rattle.list_in_place.proofs.paint_cut.Goals.{After-cut_track-found, After-lift, After-move_down, Start}
 use Rattle.list_in_place.proofs.paint_cut.Goals as goal
 

@@ -14,7 +14,6 @@ use Rattle.list_pieces.proofs.Bits.{last16, first16, good_back}
 use Rattle.list_pieces.proofs.Found.{last_le, first_le}
 use Rattle.list_sweeps.proofs.Moves.{m_long, s_apart, paste_self}
 use Rattle.list_in_place.proofs.InPlace.{apart_on, stored_one, one_reaches, grown_is, placed}
-use borrow.Author.Rules.{rules}
 use Rattle.list_in_place.proofs.paint_track.Goals.{After-after_early-first, After-before_late-past, After-lift, Start, Then-one}
 use Rattle.list_in_place.proofs.paint_track.Goals as goal
 

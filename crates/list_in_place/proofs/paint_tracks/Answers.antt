@@ -1,11 +1,8 @@
 -- `paint_tracks` meets its contract. The tracks from `t` on are painted already (`TInv`).
-use mir.Syntax.{w16}
-use mir.Val.{to_z}
 use mir.Facts.{to_z-of_z}
-use Rattle.theory_signed.specs.Parts.{gap}
 use Rattle.theory_signed.proofs.Laws.{signed, rng}
 use Rattle.list_pieces.proofs.Bits.{good_back, lt16_back}
-use Rattle.list_in_place.proofs.InPlace.{TInv, t_start, t_late, t_room, t_next, t_done}
+use Rattle.list_in_place.proofs.InPlace.{t_start, t_late, t_room, t_next, t_done}
 use Rattle.list_sweeps.proofs.Swept.{swept_plain, tail_back}
 use Rattle.list_in_place.proofs.paint_tracks.Goals as goal
 
