@@ -3,7 +3,6 @@ use Prim.Native.Nat.{◌-◌}
 use native.Mathlib.Omega.{arith}
 use lib.ListN.{length}
 use lib.IntN.{pos}
-use borrow.Author.Rules.{rules}
 use Rattle.list_moves.proofs.Parts.{paste_whole}
 use Rattle.list_painting.proofs.clear.Goals as goal
 

@@ -1,15 +1,11 @@
 -- `count_painted` meets its contract. What the tracks from `track` on replace, and by what, is counted already (`CInv`).
 use native.Mathlib.Omega.{arith}
-use mir.Syntax.{w16}
-use mir.Val.{to_z}
 use mir.Facts.{to_z-of_z}
-use Rattle.theory_signed.specs.Parts.{gap}
 use Rattle.theory_signed.proofs.Laws.{signed, rng}
 use Rattle.theory_intervals.proofs.Lists.{holds_room}
 use Rattle.list_pieces.proofs.Bits.{back16, lt16_back, good_back}
-use Rattle.list_sweeps.proofs.Count.{CInv, c_start, c_room, c_apart, c_low, c_high, c_next, c_done}
+use Rattle.list_sweeps.proofs.Count.{c_start, c_room, c_apart, c_low, c_high, c_next, c_done}
 use Rattle.list_painting.proofs.Whole.{Asked, tracks, good, keep, total_is}
-use borrow.Author.Rules.{rules}
 use Rattle.list_painting.proofs.count_painted.Goals.{Start}
 use Rattle.list_painting.proofs.count_painted.Goals as goal
 

@@ -1,7 +1,6 @@
 -- `is_short` meets its contract: where there is room however the tracks are cut there is room, and else the records are counted.
 use mathlib.Core.Path.{sym, ap, ◌∙◌}
 use Prim.Native.Nat.{ℕ, ◌*◌}
-use borrow.Author.Rules.{rules}
 use borrow.Author.Tests.{le-ltb}
 use lib.Dec.{ltb}
 use lib.ListN.{length}

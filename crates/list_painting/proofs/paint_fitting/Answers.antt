@@ -1,7 +1,6 @@
 -- `paint_fitting` meets its contract: by one sweep, or by a count and a repaint.
 use mathlib.Core.Path.{sym, subst}
 use Prim.Native.Nat.{ℕ, ◌*◌, ◌≤◌}
-use borrow.Author.Rules.{rules}
 use lib.ListN.{length}
 use Rattle.theory_intervals.specs.Lists.{recs}
 use Rattle.theory_intervals.proofs.Lists.{holds_room}

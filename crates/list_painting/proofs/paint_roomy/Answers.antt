@@ -1,7 +1,6 @@
 -- `paint_roomy` meets its contract: one sweep that paints all, with two places more for each track.
 use mathlib.Core.Path.{◌≡◌, ap}
 use Prim.Native.Nat.{ℕ, ◌+◌, ◌*◌}
-use borrow.Author.Rules.{rules}
 use native.Mathlib.Omega.{arith}
 use mir.Facts.{to_z-of_z}
 use Rattle.theory_signed.specs.Parts.{gap}

@@ -4,7 +4,6 @@ use Rattle.list_pieces.specs.Passes.{Swept}
 use Rattle.list_pieces.proofs.Bits.{lt16_back, good_back}
 use Rattle.list_sweeps.proofs.Swept.{roomy_back, swept_plain}
 use Rattle.list_painting.proofs.Whole.{Asked, tracks, good, ready_one, roomy_one, ready_two, roomy_two, done}
-use borrow.Author.Rules.{rules}
 use Rattle.list_painting.proofs.repaint.Goals.{After-sweep-n, Start}
 use Rattle.list_painting.proofs.repaint.Goals as goal
 
