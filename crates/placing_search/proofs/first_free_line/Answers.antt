@@ -7,7 +7,6 @@ use lib.Signed.{◌≤ℤ◌}
 use mir.Syntax.{w16}
 use mir.Val.{SFits, to_z, of_z}
 use mir.Facts.{to_z-of_z}
-use Rattle.theory_signed.specs.Parts.{gap}
 use Rattle.theory_signed.proofs.Laws.{signed, rng, fit16}
 use Rattle.theory_intervals.specs.Lists.{recs}
 use Rattle.grid_coordinates.specs.Line.{lines}
@@ -15,7 +14,6 @@ use Rattle.list_jumps.specs.Calls.{collision_jump}
 use Rattle.list_rules.specs.Inner.{Split, Crosses}
 use Rattle.list_rules.proofs.ByIndex.{holds_front}
 use Rattle.list_tracks.proofs.Sorted.{split_as}
-use Rattle.theory_walk.specs.Search.{first_line}
 use Rattle.placing_search.proofs.Turns.{clear_line, Further, line_here, line_on}
 use Rattle.placing_search.proofs.first_free_line.Goals.{After-collision_between-jump, After-lower-first, After-lower-past, After-struct_told-2-1, At-loop-e, In-Next, Start}
 use Rattle.placing_search.proofs.first_free_line.Goals as goal

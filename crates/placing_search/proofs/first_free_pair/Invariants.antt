@@ -1,25 +1,12 @@
-use mathlib.Core.Path.{◌≡◌, refl, sym, ap, ◌∙◌}
-use mathlib.Core.Bool.{true}
+use mathlib.Core.Path.{◌≡◌}
 use mathlib.Core.List.{List}
-use borrow.Author.Tests.{eqb-true}
 use Prim.Native.Nat.{ℕ}
-use native.Mathlib.Omega.{arith}
-use lib.IntN.{ℤ, pos, negsuc, ◌+ℤ◌, ◌-ℤ◌}
+use lib.IntN.{ℤ, pos, negsuc, ◌+ℤ◌}
 use lib.Signed.{◌≤ℤ◌}
-use mir.Syntax.{w16, w32}
-use mir.Val.{SFits, to_z, of_z}
-use mir.Facts.{to_z-of_z}
 use Rattle.theory_signed.specs.Parts.{gap}
-use Rattle.theory_signed.proofs.Laws.{signed, sum, rng, fit16}
-use Rattle.theory_intervals.specs.Records.{Rec}
-use Rattle.theory_intervals.specs.Lists.{recs, rules}
-use Rattle.list_jumps.specs.Calls.{collision_jump}
-use Rattle.list_rules.specs.Inner.{Front, Split, Crosses}
-use Rattle.list_rules.proofs.ByIndex.{holds_front}
-use Rattle.list_tracks.proofs.Sorted.{split_as}
-use Rattle.theory_walk.specs.Search.{at}
-use Rattle.placing_search.specs.Clear.{Inside}
-use Rattle.placing_search.proofs.Turns.{pair_found, Along, pair_here, pair_on_lem, pair_down, pair_within, stripe_found}
+use Rattle.theory_intervals.specs.Lists.{recs}
+use Rattle.list_rules.specs.Inner.{Split}
+use Rattle.placing_search.proofs.Turns.{pair_found}
 use Rattle.placing_search.proofs.first_free_pair.Given as goal
 
 -- z is a 16-bit number, and small enough for a span to be added to it

@@ -1,15 +1,12 @@
 -- `first_free_stripe`: the search from where the loop stands finds what the search from the start finds. Assumes nothing.
 use mathlib.Core.Path.{◌≡◌, refl, sym, ◌∙◌}
 use borrow.Author.Rules.{rules}
-use lib.IntN.{ℤ, pos, ◌+ℤ◌}
-use lib.Signed.{◌≤ℤ◌}
+use lib.IntN.{pos, ◌+ℤ◌}
 use mir.Syntax.{w16}
 use mir.Val.{to_z, of_z}
 use mir.Facts.{to_z-of_z}
-use Rattle.theory_signed.specs.Parts.{gap}
 use Rattle.theory_signed.proofs.Laws.{signed, rng, fit16}
 use Rattle.theory_intervals.specs.Lists.{recs}
-use Rattle.theory_walk.specs.Search.{first_line}
 use Rattle.placing_search.proofs.Turns.{clear_stripe, Further, stripe_here, stripe_on}
 use Rattle.placing_search.proofs.first_free_stripe.Goals.{At-loop-after, In-Next}
 use Rattle.placing_search.proofs.first_free_stripe.Goals as goal

@@ -1,14 +1,10 @@
-use mathlib.Core.Path.{◌≡◌, refl, sym, ◌∙◌}
-use lib.IntN.{ℤ, pos, ◌+ℤ◌}
+use mathlib.Core.Path.{◌≡◌}
+use lib.IntN.{pos}
 use lib.Signed.{◌≤ℤ◌}
-use mir.Syntax.{w16}
-use mir.Val.{to_z, of_z}
-use mir.Facts.{to_z-of_z}
 use Rattle.theory_signed.specs.Parts.{gap}
-use Rattle.theory_signed.proofs.Laws.{signed, rng, fit16}
 use Rattle.theory_intervals.specs.Lists.{recs}
 use Rattle.theory_walk.specs.Search.{first_line}
-use Rattle.placing_search.proofs.Turns.{clear_stripe, Further, stripe_here, stripe_on}
+use Rattle.placing_search.proofs.Turns.{clear_stripe}
 use Rattle.placing_search.proofs.first_free_stripe.Given as goal
 
 abbrev pub invariant-loop-after : goal.invariant-loop-after
