@@ -1,32 +1,29 @@
 -- Laying one tile on the lists is `put` on the board: the one law by which every step's item is proved.
 use mathlib.Core.Path.{◌≡◌, refl, sym, ap, subst, ◌∙◌}
-use mathlib.Core.Logic.{◌⊎◌, inl, inr, ⊎_elim}
+use mathlib.Core.Logic.{inl, inr}
 use mathlib.Core.Bool.{Bool, true, false, not, cond, ◌||◌}
-use mathlib.Core.List.{List, [], ◌∷◌}
-use Prim.Native.Nat.{ℕ, ◌+◌, ◌*◌, ◌≤◌, ◌<◌}
+use mathlib.Core.List.{List, []}
+use Prim.Native.Nat.{ℕ, ◌+◌, ◌*◌, ◌<◌}
 use native.Mathlib.Omega.{arith}
 use borrow.Author.Tests.{ltb-false}
-use lib.Dec.{ltb}
 use lib.IntN.{ℤ, pos}
 use lib.ListN.{length}
 use lib.Seq.{sets, length-sets}
 use Rattle.theory_intervals.specs.Records.{Rec, Area, area}
 use Rattle.theory_intervals.specs.OverInt.{paint_list, flat, digits, ok}
 use Rattle.theory_intervals.specs.Lists.{recs, Holds}
-use Rattle.theory_intervals.proofs.Lists.{flat_recs, flat_holds}
+use Rattle.theory_intervals.proofs.Lists.{flat_recs}
 use Rattle.theory_intervals.proofs.OverInt.{digit_laws}
 use Rattle.theory_intervals.proofs.Flat as Fl
-use Rattle.list_painting.specs.Painting.{area_of, state_of}
 use Rattle.grid_coordinates.specs.declared.Lines.{Lines}
 use Rattle.grid_coordinates.specs.Line.{limited, pressed}
 use Rattle.grid_track_counts.specs.Counts.{grown, Sound}
-use Rattle.theory_walk.specs.Axis.{Axis, col, row, other, Both, on, laid, Extent, limited_area, pressed_area, grown_both}
-use Rattle.theory_walk.specs.Walk.{Board, Tile, Setting, Choice, Run, going, stopped, bit, tile_of, laid_on, area_on, records_on, short, judged, put}
+use Rattle.theory_walk.specs.Axis.{Axis, other, Both, on, laid}
+use Rattle.theory_walk.specs.Walk.{Board, Setting, Choice, Run, going, stopped, tile_of, laid_on, area_on, records_on, short, judged, put}
 use Rattle.theory_walk.specs.Search.{at}
 use Rattle.theory_walk.specs.Request.{numbers}
-use Rattle.theory_walk.specs.OnList.{written}
-use Rattle.theory_walk.proofs.Tests.{Every, nil, more}
-use Rattle.theory_walk.proofs.Cells.{Coloured, records_rules, records_hold}
+use Rattle.theory_walk.proofs.Tests.{more}
+use Rattle.theory_walk.proofs.Cells.{Coloured, records_hold}
 use Rattle.theory_walk.proofs.WalkLaws.{Kept}
 use Rattle.theory_walk.proofs.LinesLaws.{Each}
 use Rattle.theory_walk.proofs.OnLists.{records_laid}
@@ -35,9 +32,9 @@ use Rattle.grid_track_counts.specs.declared.TrackCounts.{TrackCounts}
 use Rattle.placing_request.specs.Items.{axis_of}
 use Rattle.placing_laying.specs.declared.Matrix.{Matrix}
 use Rattle.placing_laying.specs.declared.Laid.{Laid}
-use Rattle.placing_laying.specs.declared.Laid.TheVariants.{On, Short}
-use Rattle.placing_laying.specs.Laying.{Laying, Fits, Full, on_primary, on_secondary, refusal, refusal_of, short_of, mark_of, answer_five, grown_matrix}
-use Rattle.placing_laying.specs.Ready.{setting_for, Ready, Stopped, AfterItem, Items}
+use Rattle.placing_laying.specs.declared.Laid.TheVariants.{On}
+use Rattle.placing_laying.specs.Laying.{Laying, Fits, on_primary, on_secondary, refusal_of, short_of, mark_of, answer_five, grown_matrix}
+use Rattle.placing_laying.specs.Ready.{setting_for, Ready, AfterItem, Items}
 
 -- ---- what stands for a board holds its records
 

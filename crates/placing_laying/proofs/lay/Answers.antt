@@ -1,5 +1,4 @@
 -- `lay` meets its contract: what it calls speaks of the limited lines, which are those of the contract; no refusal is room on both lists.
-use borrow.Author.Rules.{rules}
 use borrow.Author.Tests.{ltb-false}
 use mathlib.Core.Path.{◌≡◌, refl, sym, ap, subst, ◌∙◌}
 use mathlib.Core.Logic.{inl, inr}

@@ -1,6 +1,6 @@
 -- `mark_of` meets its contract: no flag has bit 1, so that setting it adds 1.
 use native.Mathlib.Omega.{arith}
-use borrow.Author.Tests.{not-true, not-false}
+use borrow.Author.Tests.{not-true}
 use Rattle.placing_laying.proofs.Laying.{marked, first_pressed, second_pressed}
 use Rattle.placing_laying.proofs.mark_of.Goals.{then-not-p_pressed+else-not-s_pressed, else-not-p_pressed}
 use Rattle.placing_laying.proofs.mark_of.Goals as goal

@@ -1,5 +1,4 @@
 -- `paint_tile` meets its contract: what it calls speaks of the lines as read back from their bits.
-use borrow.Author.Rules.{rules}
 use lib.ListN.{length}
 use mir.Facts.{to_z-of_z}
 use Rattle.theory_intervals.specs.Lists.{recs}

@@ -1,5 +1,4 @@
 -- `put_answer` meets its contract.
-use borrow.Author.Rules.{rules}
 use mir.Syntax.{w16}
 use mir.Val.{SFits}
 use mir.Facts.{to_z-of_z}

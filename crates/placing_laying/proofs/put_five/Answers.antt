@@ -1,5 +1,4 @@
 -- `put_five` meets its contract.
-use borrow.Author.Rules.{rules}
 use mathlib.Core.Path.{◌≡◌}
 use native.Mathlib.Omega.{arith}
 use lib.IntN.{pos}

@@ -1,5 +1,4 @@
 -- `refusal_of` meets its contract.
-use borrow.Author.Rules.{rules}
 use Rattle.placing_laying.proofs.refusal_of.Goals as goal
 
 pub returns-then-columns : goal.returns-then-columns
