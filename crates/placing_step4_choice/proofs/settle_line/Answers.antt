@@ -1,5 +1,4 @@
 -- `settle_line` meets its contract: no line from the start on passes 12000, so that a span can be added to it.
-use borrow.Author.Rules.{rules}
 use mathlib.Core.Path.{◌≡◌, ap, subst, sym, ◌∙◌}
 use lib.IntN.{ℤ}
 use mir.Syntax.{w16}

@@ -1,5 +1,4 @@
 -- `start_line` meets its contract.
-use borrow.Author.Rules.{rules}
 use mathlib.Core.Path.{◌∙◌}
 use mir.Facts.{to_z-of_z}
 use Rattle.theory_signed.proofs.Laws.{signed, fit16}
