@@ -5,14 +5,14 @@ use mathlib.Core.Bool.{Bool, true, false, cond}
 use mathlib.Core.List.{List}
 use Prim.Native.Nat.{ℕ, suc, ◌+◌, ◌/◌, ◌%◌, ◌≤◌, ◌<◌}
 use native.Mathlib.Omega.{arith}
-use lib.IntN.{ℤ, pos, negsuc, ◌+ℤ◌}
+use lib.IntN.{ℤ, pos, ◌+ℤ◌}
 use lib.ListN.{length, drop}
-use lib.Signed.{lt_z, ◌≤ℤ◌, ◌<ℤ◌}
+use lib.Signed.{◌<ℤ◌}
 use mir.Syntax.{w16}
 use mir.Val.{SFits}
 use Rattle.theory_signed.proofs.Laws.{signed}
 use Rattle.theory_intervals.specs.Records.{Rec}
-use Rattle.theory_intervals.specs.Lists.{recs, rules}
+use Rattle.theory_intervals.specs.Lists.{recs}
 use Rattle.grid_coordinates.specs.declared.Lines.{Lines}
 use Rattle.grid_track_counts.specs.declared.TrackCounts.{TrackCounts}
 use Rattle.grid_track_counts.specs.Counts.{grid_start, grid_end, Sound}
@@ -23,7 +23,6 @@ use Rattle.theory_walk.specs.Rules.{Rule4, finds_line, finds_pair, lays_untested
 use Rattle.theory_walk.specs.declared.Placement.{Placement}
 use Rattle.theory_walk.specs.declared.Placement.TheVariants.{Fixed, Spanned}
 use Rattle.theory_walk.specs.Walk.{Queued, Board, Setting, Choice, Run, going, stopped, bit, laid_on, put, moved, start4, free_across, choose_line, overwide, pair_of, untested, choose_pair, step4, each, begin4, last4}
-use Rattle.theory_walk.proofs.SearchLaws.{first_line_first, first_line_high}
 use Rattle.theory_walk.proofs.LinesLaws.{start_low, start_high}
 use Rattle.theory_walk.proofs.Cells.{records_rules}
 use Rattle.theory_walk.proofs.FreeLaws.{choose_line_rule, choose_pair_rule}
@@ -33,7 +32,6 @@ use Rattle.theory_walk.proofs.Loops.{each_next, each_stop, each_end}
 use Rattle.theory_walk.proofs.Checks.{halves_length}
 use Rattle.placing_search.specs.Clear.{clear, Inside}
 use Rattle.placing_search.specs.declared.Pair.{Pair}
-use Rattle.placing_search.proofs.Clears.{clear_lines_beyond}
 use Rattle.placing_search.proofs.OnBoard.{inside_board, across_search, pair_search}
 use Rattle.placing_request.specs.Items.{axis_of, item_at}
 use Rattle.placing_request.proofs.Items.{queued, queue_drop, queue_end, good_placement}
@@ -46,7 +44,6 @@ use Rattle.placing_laying.specs.Laying.{Laying}
 use Rattle.placing_laying.specs.Ready.{setting_for, Ready, AfterItem, AfterStep, Items, primary_of, secondary_of}
 use Rattle.placing_step4_choice.specs.Cursor.{place_of, start_on, line_on, pair_on}
 use Rattle.placing_step4.specs.Turns.{turn_of, AfterTurn}
-use Rattle.placing_step4_choice.proofs.Near.{Near, start_near, line_near}
 use Rattle.placing_laying.proofs.Lays.{put_laid, primary_recs, secondary_recs}
 
 -- ---- what a good item's placement is

@@ -1,5 +1,4 @@
 -- `place_indefinitely_positioned_item` meets its contract: an item with fixed secondary lines stays, any other is laid by a line or by a pair.
-use borrow.Author.Rules.{rules}
 use mathlib.Core.Path.{◌≡◌, sym, ap, subst, ◌∙◌}
 use mathlib.Core.Bool.{true}
 use Prim.Native.Nat.{ℕ}

@@ -1,5 +1,4 @@
 -- `place_on_line` meets its contract.
-use borrow.Author.Rules.{rules}
 use mathlib.Core.Path.{refl}
 use native.Mathlib.Omega.{arith}
 use Rattle.theory_signed.proofs.Laws.{signed}

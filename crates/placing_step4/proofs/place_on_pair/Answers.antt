@@ -1,5 +1,4 @@
 -- `place_on_pair` meets its contract. Its sums fit since the place that is settled is the walk's, whatever board the lists stand for.
-use borrow.Author.Rules.{rules}
 use mathlib.Core.Path.{◌≡◌, refl, ap, ◌∙◌}
 use lib.IntN.{ℤ, pos, ◌+ℤ◌}
 use mir.Syntax.{w16}

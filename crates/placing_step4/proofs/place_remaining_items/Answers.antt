@@ -1,9 +1,6 @@
 -- `place_remaining_items` meets its contract: the loop goes along what is left of the step, with the cursor.
-use borrow.Author.Rules.{rules}
 use mathlib.Core.Path.{◌≡◌, refl, ◌∙◌}
-use Prim.Native.Nat.{◌-◌, ◌/◌, ◌≤◌}
 use native.Mathlib.Omega.{arith}
-use lib.ListN.{length}
 use mir.Syntax.{w16}
 use mir.Val.{to_z, of_z}
 use mir.Facts.{to_z-of_z}
@@ -12,8 +9,8 @@ use Rattle.grid_track_counts.specs.Counts.{grid_start}
 use Rattle.theory_walk.specs.Search.{at}
 use Rattle.placing_search.specs.declared.Pair.{Pair}
 use Rattle.placing_step4_choice.specs.Cursor.{place_of}
-use Rattle.placing_laying.proofs.Lays.{Lengths, sound_primary, sound_secondary, items_upto}
-use Rattle.placing_step4.proofs.Step4.{Going, once_is_near, near_all, going_none, going_on, going_stops, going_done}
+use Rattle.placing_laying.proofs.Lays.{sound_primary, sound_secondary, items_upto}
+use Rattle.placing_step4.proofs.Step4.{once_is_near, near_all, going_none, going_on, going_stops, going_done}
 use Rattle.placing_step4.proofs.place_remaining_items.Goals.{After-struct_told-2-1, Start}
 use Rattle.placing_step4.proofs.place_remaining_items.Goals as goal
 

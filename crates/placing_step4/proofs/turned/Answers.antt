@@ -1,5 +1,4 @@
 -- `turned` meets its contract.
-use borrow.Author.Rules.{rules}
 use mathlib.Core.Path.{sym, ap}
 use Rattle.placing_laying.specs.declared.Laid.{Laid}
 use Rattle.placing_step4.specs.Turns.{turn_of}
