@@ -1,18 +1,16 @@
 -- Judging a file: each way to refusal 12, what a good file's length is, and how a good file comes to the door's outcome.
-use mathlib.Core.Path.{◌≡◌, refl, sym, ap, ◌∙◌}
-use mathlib.Core.Bool.{Bool, true, false, not, cond, ◌&&◌, ◌||◌}
-use mathlib.Core.List.{List, ◌++◌}
-use mathlib.Core.Option.{Option, some}
-use Prim.Native.Nat.{ℕ, ◌+◌, ◌*◌, ◌/◌, ◌%◌, ◌≤◌, ◌<◌}
+use mathlib.Core.Path.{◌≡◌, refl, ap}
+use mathlib.Core.Bool.{Bool, true, false, ◌&&◌}
+use mathlib.Core.List.{List}
+use Prim.Native.Nat.{ℕ, ◌+◌, ◌*◌, ◌≤◌, ◌<◌}
 use native.Mathlib.Omega.{arith}
-use borrow.Author.Tests.{leb-true, eqb-true, lt-ltb, le-ltb, lt-leb, le-leb, eq-eqb, ne_eqb}
-use lib.Dec.{eqb, leb, ltb}
-use lib.IntN.{ℤ}
-use lib.ListN.{length, get_or, take, drop}
+use borrow.Author.Tests.{eqb-true, lt-leb, le-leb, eq-eqb, ne_eqb}
+use lib.Dec.{eqb, leb}
+use lib.ListN.{length, get_or}
 use Rattle.theory_intervals.proofs.Grid.{and_l, and_r, and_i}
 use Rattle.board_bytes.specs.declared.header.Head.{Head}
 use Rattle.board_bytes.specs.declared.header.FileHeader.TheVariants as H
-use Rattle.board_bytes.specs.File.{word_at, length_told, numbers, counts_at, head_of, items_in, good_file, header_of}
+use Rattle.board_bytes.specs.File.{word_at, length_told, head_of, good_file, header_of}
 
 -- ---- the header
 

@@ -1,10 +1,10 @@
 -- The numbers of a file: how many they are, one more at their end, and those that a byte before moves.
 use mathlib.Core.Path.{◌≡◌, refl, sym, ap, ◌∙◌}
 use mathlib.Core.List.{List, [], ◌∷◌, ◌++◌}
-use Prim.Native.Nat.{ℕ, zero, suc, ◌+◌, ◌*◌, ◌≤◌, ◌<◌}
+use Prim.Native.Nat.{ℕ, zero, suc, ◌+◌, ◌*◌, ◌<◌}
 use native.Mathlib.Omega.{arith}
 use lib.IntN.{ℤ}
-use lib.ListN.{length, get_or, set, drop, take}
+use lib.ListN.{length, set, drop, take}
 use Rattle.board_bytes.specs.File.{word_at, signed_of, numbers}
 
 pub length_numbers : (bs : List ℕ) (i n : ℕ) → length (numbers bs i n) ≡ n

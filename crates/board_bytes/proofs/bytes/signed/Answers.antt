@@ -1,7 +1,6 @@
 -- `signed` meets its contract.
 use native.Mathlib.Omega.{arith}
 use Rattle.board_bytes.proofs.Signs.{low, high_32, high_16, high}
-use borrow.Author.Rules.{rules}
 use Rattle.board_bytes.proofs.bytes.signed.Goals as goal
 
 pub returns-then-n-lt32768 : goal.returns-then-n-lt32768

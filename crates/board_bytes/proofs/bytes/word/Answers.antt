@@ -5,7 +5,6 @@ use native.Mathlib.Omega.{arith}
 use native.Mathlib.Numerals.{add-one}
 use lib.ListN.{get_or}
 use Rattle.board_bytes.specs.File.{word_at}
-use borrow.Author.Rules.{rules}
 use Rattle.board_bytes.proofs.bytes.word.Goals as goal
 
 pub overflow_mul-result : goal.overflow_mul-result

@@ -1,6 +1,5 @@
 -- `counts` meets its contract.
 use Rattle.board_bytes.specs.File.{counts_at}
-use borrow.Author.Rules.{rules}
 use Rattle.board_bytes.proofs.header.counts.Goals as goal
 
 pub returns : goal.returns

@@ -1,7 +1,6 @@
 -- `length_told` meets its contract.
 use native.Mathlib.Omega.{arith}
 use Rattle.board_bytes.specs.File.{length_told}
-use borrow.Author.Rules.{rules}
 use Rattle.board_bytes.proofs.header.length_told.Goals as goal
 
 pub returns : goal.returns

@@ -1,11 +1,9 @@
 -- `read_header` meets its contract: each test refuses what the definition refuses.
 use mathlib.Core.Path.{sym, ap, ◌∙◌}
-use native.Mathlib.Omega.{arith}
 use Prim.Native.Nat.{◌+◌, ◌*◌}
 use lib.ListN.{get_or}
 use Rattle.board_bytes.specs.File.{head_of}
 use Rattle.board_bytes.proofs.Judged.{short, other_length, other_count, other_version, agrees, accepted}
-use borrow.Author.Rules.{rules}
 use Rattle.board_bytes.proofs.header.read_header.Goals as goal
 
 pub returns-then-bytes-lt20 : goal.returns-then-bytes-lt20

@@ -1,14 +1,8 @@
-use mathlib.Core.Path.{◌≡◌, refl, sym, ap, ◌∙◌}
-use mathlib.Core.List.{List, ◌++◌}
-use Prim.Native.Nat.{ℕ, ◌+◌, ◌-◌, ◌*◌, ◌≤◌}
-use native.Mathlib.Omega.{arith}
-use lib.IntN.{ℤ}
-use lib.ListN.{length, set, drop, length-set}
-use native.Mathlib.Numerals.{add-one}
-use mir.Syntax.{w16}
-use mir.ValLaws.{to_z-of_z}
-use Rattle.board_bytes.specs.File.{word_at, signed_of, numbers}
-use Rattle.board_bytes.proofs.Words.{numbers_none, store_next}
+use mathlib.Core.Path.{◌≡◌}
+use mathlib.Core.List.{◌++◌}
+use Prim.Native.Nat.{◌-◌, ◌≤◌}
+use lib.ListN.{length, drop}
+use Rattle.board_bytes.specs.File.{numbers}
 use Rattle.board_bytes.proofs.items.read_items.Given as goal
 
 abbrev pub invariant-loop-i : goal.invariant-loop-i
