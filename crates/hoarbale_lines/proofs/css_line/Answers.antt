@@ -1,5 +1,4 @@
 -- `css_line` meets its contract: each return by the tests that led there.
-use borrow.Author.Rules.{rules}
 use borrow.Author.Tests.{le-leb, lt-leb}
 use mathlib.Core.Path.{ap}
 use lib.IntN.{ℤ}

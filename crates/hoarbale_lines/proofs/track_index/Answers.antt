@@ -1,5 +1,4 @@
 -- `track_index` meets its contract: each return by the tests that led there.
-use borrow.Author.Rules.{rules}
 use mathlib.Core.Path.{◌≡◌, sym, ap, ◌∙◌}
 use mathlib.Core.Bool.{true}
 use Rattle.grid_track_counts.specs.Counts.{counts_good}
