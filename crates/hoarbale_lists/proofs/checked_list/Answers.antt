@@ -1,17 +1,9 @@
 -- `checked_list` meets its contract: each return by the tests that led there.
-use borrow.Author.Rules.{rules}
 use borrow.Author.Tests.{eq-eqb, ne_eqb, le-leb, lt-leb}
 use mathlib.Core.Path.{◌≡◌, sym, ap, ◌∙◌}
-use mathlib.Core.Bool.{cond}
 use Prim.Native.Nat.{◌%◌}
 use lib.ListN.{length}
-use Rattle.theory_intervals.specs.Lists.{kept, used}
-use Rattle.list_rules.specs.declared.Used.{Used}
-use Rattle.list_rules.specs.declared.Used.TheVariants.{Records, Broken}
-use Rattle.list_rules.specs.Kept.{kept_of}
 use Rattle.hoarbale_lists.specs.Lists.{checked_of}
-use Rattle.hoarbale_lists.specs.declared.Checked.{Checked}
-use Rattle.hoarbale_lists.specs.declared.Checked.TheVariants as C
 use Rattle.hoarbale_lists.proofs.Checking.{of_used, used_checked}
 use Rattle.hoarbale_lists.proofs.checked_list.Goals.{After-kept-held}
 use Rattle.hoarbale_lists.proofs.checked_list.Goals as goal

@@ -1,9 +1,9 @@
 -- `good_area` meets its contract: each test is read once, where it is made, and each return is what is known of plain numbers there.
 use mathlib.Core.Path.{◌≡◌}
-use mathlib.Core.Bool.{true, false}
+use mathlib.Core.Bool.{true}
 use Rattle.theory_signed.proofs.Laws.{signed, g_lt_true, g_lt_false, g_le_true, g_le_false}
 use mir.Facts.{to_z-of_z}
-use lib.IntN.{ℤ, pos, negsuc}
+use lib.IntN.{pos, negsuc}
 use lib.Signed.{lt_z, le_z}
 use Rattle.theory_intervals.specs.OverInt.{ok}
 use Rattle.list_painting.specs.Painting.{state_of}

@@ -1,5 +1,4 @@
 -- `occupied_track_jump` meets its contract: each return by the checks that led there.
-use borrow.Author.Rules.{rules}
 use mathlib.Core.Path.{◌≡◌, sym, ap, ◌∙◌}
 use mathlib.Core.List.{List}
 use Prim.Native.Nat.{ℕ}

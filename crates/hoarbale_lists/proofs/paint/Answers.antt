@@ -1,5 +1,4 @@
 -- `paint` meets its contract: each return by the checks that led there.
-use borrow.Author.Rules.{rules}
 use mathlib.Core.Path.{◌≡◌, sym, ap, ◌∙◌}
 use mathlib.Core.Bool.{true}
 use mathlib.Core.List.{List}
@@ -8,7 +7,7 @@ use lib.IntN.{ℤ}
 use mir.Facts.{to_z-of_z}
 use Rattle.theory_intervals.specs.Records.{Area}
 use Rattle.theory_intervals.specs.OverInt.{fit}
-use Rattle.theory_intervals.specs.Lists.{Holds, good_area, area_in}
+use Rattle.theory_intervals.specs.Lists.{good_area, area_in}
 use Rattle.theory_intervals.proofs.Grid.{and_l}
 use Rattle.list_painting.specs.Painting.{area_of}
 use Rattle.list_painting.proofs.Callers.{fit16}
