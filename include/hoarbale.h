@@ -1,4 +1,4 @@
-/* Hoarbale: grid placement and cell occupancy, proved. Link with libhoarbale_c.a, which `rt staticlib hoarbale_c` makes.
+/* Hoarbale: grid placement and cell occupancy, proved. Link with libhoarbale_c.a, which `tools/staticlib` makes.
  *
  * No call asks anything of its caller but that a pointer is good for the length beside it. A refusal is told by document 01's
  * number; 0 is no refusal. What a call may write is named with it; a refusal writes nothing unless that is said. */

@@ -1,4 +1,4 @@
-//! Finds the static library, or makes it by `rt staticlib hoarbale_c` at the repository's root.
+//! Finds the static library, or makes it by `tools/staticlib` of the repository.
 //! `HOARBALE_LIB_DIR` names a directory that has it already.
 use std::env;
 use std::path::{Path, PathBuf};
@@ -10,12 +10,10 @@ fn made_at_root(here: &Path) -> PathBuf {
     let root = here.join("../..");
     let directory = root.join("target/staticlib");
     if !directory.join(LIBRARY).exists() {
-        let status = Command::new("rt")
-            .args(["staticlib", "hoarbale_c"])
-            .current_dir(&root)
+        let status = Command::new(root.join("tools/staticlib"))
             .status()
             .expect("the Rattle kit's rt makes the library; or HOARBALE_LIB_DIR names a directory that has it");
-        assert!(status.success(), "rt staticlib hoarbale_c failed");
+        assert!(status.success(), "tools/staticlib failed");
     }
     directory
 }
