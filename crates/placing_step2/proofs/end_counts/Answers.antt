@@ -1,14 +1,12 @@
 -- `end_counts`: each return is the definition with the tests on the way. Assumes nothing.
-use borrow.Author.Rules.{rules}
 use mathlib.Core.Path.{◌≡◌, sym, ◌∙◌}
-use mathlib.Core.Bool.{Bool, true}
+use mathlib.Core.Bool.{true}
 use lib.IntN.{ℤ}
 use mir.Syntax.{w16}
 use Rattle.theory_signed.proofs.Laws.{signed, same, differ, eq_yes, eq_no}
 use Rattle.theory_walk.specs.Rules.{mine2}
 use Rattle.theory_walk.proofs.Tests.{not-true, not-false}
 use Rattle.placing_laying.specs.Ready.{primary_of, secondary_of}
-use Rattle.placing_step2.specs.Ends.{recorded_start}
 use Rattle.placing_step2.proofs.end_counts.Goals.{After-recorded_start-recorded, Start}
 use Rattle.placing_step2.proofs.end_counts.Goals as goal
 

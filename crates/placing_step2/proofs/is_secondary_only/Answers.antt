@@ -1,5 +1,4 @@
 -- `is_secondary_only`: each return is what the placements read make of `mine2`. Assumes nothing.
-use borrow.Author.Rules.{rules}
 use mathlib.Core.Path.{◌≡◌, sym, ap, ◌∙◌}
 use native.Mathlib.Omega.{arith}
 use Rattle.theory_walk.specs.Axis.{Axis, on}

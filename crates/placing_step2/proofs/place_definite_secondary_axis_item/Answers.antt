@@ -1,11 +1,8 @@
 -- `place_definite_secondary_axis_item` meets its contract: an item that is not fixed in the secondary axis only is passed over, and any other is laid on
 -- the first free primary line, which is `put` on the board. Assumes nothing.
-use borrow.Author.Rules.{rules}
 use mathlib.Core.Path.{◌≡◌, refl, sym, ap, ◌∙◌}
-use mathlib.Core.Bool.{not}
 use Prim.Native.Nat.{ℕ, ◌≤◌}
 use native.Mathlib.Omega.{arith}
-use lib.IntN.{ℤ}
 use lib.Signed.{◌<ℤ◌}
 use Rattle.theory_signed.proofs.Laws.{signed}
 use Rattle.grid_coordinates.specs.declared.Lines.{Lines}

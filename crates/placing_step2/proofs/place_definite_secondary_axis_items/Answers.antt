@@ -1,11 +1,7 @@
 -- `place_definite_secondary_axis_items` meets its contract: the loop goes along what is left of the step. Assumes nothing.
-use borrow.Author.Rules.{rules}
 use mathlib.Core.Path.{refl}
-use Prim.Native.Nat.{◌-◌, ◌/◌, ◌≤◌}
 use native.Mathlib.Omega.{arith}
-use lib.ListN.{length}
-use Rattle.placing_laying.proofs.Lays.{Lengths}
-use Rattle.placing_step2.proofs.Step2.{Turn, turn_first, turn_stands, turn_onward, turn_next, turn_stop, turn_last}
+use Rattle.placing_step2.proofs.Step2.{turn_first, turn_stands, turn_onward, turn_next, turn_stop, turn_last}
 use Rattle.placing_step2.proofs.place_definite_secondary_axis_items.Goals as goal
 
 pub loop-i-init : goal.loop-i-init

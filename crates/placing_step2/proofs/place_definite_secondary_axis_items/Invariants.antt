@@ -1,9 +1,7 @@
-use mathlib.Core.Path.{refl}
 use Prim.Native.Nat.{◌-◌, ◌/◌, ◌≤◌}
-use native.Mathlib.Omega.{arith}
 use lib.ListN.{length}
 use Rattle.placing_laying.proofs.Lays.{Lengths}
-use Rattle.placing_step2.proofs.Step2.{Turn, turn_first, turn_stands, turn_onward, turn_next, turn_stop, turn_last}
+use Rattle.placing_step2.proofs.Step2.{Turn}
 use Rattle.placing_step2.proofs.place_definite_secondary_axis_items.Given as goal
 
 abbrev pub invariant-loop-i : goal.invariant-loop-i

@@ -1,5 +1,4 @@
 -- `recorded_end`: the number read is the one that the axis names. Assumes nothing.
-use borrow.Author.Rules.{rules}
 use mir.Facts.{to_z-of_z}
 use Rattle.placing_step2.proofs.recorded_end.Goals as goal
 

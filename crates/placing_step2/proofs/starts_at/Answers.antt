@@ -1,5 +1,4 @@
 -- `starts_at`: each return is what the placement read makes of `starts_at`. Assumes nothing.
-use borrow.Author.Rules.{rules}
 use mathlib.Core.Path.{◌≡◌, sym, ap, ◌∙◌}
 use native.Mathlib.Omega.{arith}
 use lib.IntN.{ℤ}
