@@ -1,19 +1,17 @@
 -- What a run leaves is the document's outcome.
 use mathlib.Core.Path.{◌≡◌, refl, sym, ap, subst, ◌∙◌}
-use mathlib.Core.Bool.{Bool, true, false, cond}
+use mathlib.Core.Bool.{Bool, true, false}
 use mathlib.Core.List.{List, [], ◌∷◌, ◌++◌, map, append-nil}
 use mathlib.Core.Option.{none}
 use Prim.Native.Nat.{ℕ, zero, suc, ◌*◌, ◌/◌, ◌%◌, ◌≤◌, ◌<◌}
 use native.Mathlib.Omega.{arith}
-use borrow.Author.Tests.{ltb-true}
 use lib.Dec.{eqb, ltb}
 use lib.IntN.{ℤ, pos}
 use lib.ListN.{length, get_or, replicate, take, drop, length-take, length-map, drop_of_length-le}
-use Rattle.theory_intervals.specs.OverInt.{flat}
 use Rattle.grid_track_counts.specs.declared.TrackCounts.{TrackCounts}
-use Rattle.theory_walk.specs.Axis.{Axis, col, row, other, Both, on, laid}
-use Rattle.theory_walk.specs.Walk.{Queued, Item, Board, Setting, Run, going, stopped, walk, records_on}
-use Rattle.theory_walk.specs.Request.{Request, Half, good_item, Outcome, refused, answered, checked, item_of, halves, setting_of, queue, up_to, queue_of, run_of, item_count, answers_of, answers_left, rows_left, columns_left, outcome}
+use Rattle.theory_walk.specs.Axis.{Both}
+use Rattle.theory_walk.specs.Walk.{Board, Run, going, stopped}
+use Rattle.theory_walk.specs.Request.{Request, Half, good_item, checked, item_of, halves, setting_of, queue, up_to, run_of, item_count, answers_left, rows_left, columns_left, outcome}
 use Rattle.theory_walk.specs.OnList.{written}
 use Rattle.theory_walk.proofs.Tests.{Every, nil, more}
 use Rattle.theory_walk.proofs.Checks.{checked_none, halves_length}
@@ -21,12 +19,9 @@ use Rattle.theory_walk.proofs.Answers.{written_is}
 use Rattle.theory_walk.proofs.Promises.{is_answered, room_refuses, room_zero, all_placed, only_items}
 use Rattle.placing_request.specs.Items.{item_at, request_of}
 use Rattle.placing_request.proofs.Items.{queued, halves_at}
-use Rattle.placing_laying.specs.declared.Matrix.{Matrix}
 use Rattle.placing_laying.specs.declared.Stepped.{Stepped}
-use Rattle.placing_laying.specs.declared.Stepped.TheVariants as S
-use Rattle.placing_run.specs.declared.checked.Placing.TheVariants as P
 use Rattle.placing_laying.specs.Ready.{Items}
-use Rattle.placing_run.specs.Runs.{empty_board, run_for, LeftBy}
+use Rattle.placing_run.specs.Runs.{run_for, LeftBy}
 use Rattle.placing_run.specs.Placing.{placing_of, by_columns}
 
 -- ---- the program's run is the request's

@@ -12,16 +12,15 @@ use Rattle.grid_track_counts.specs.Counts.{Sound}
 use Rattle.theory_walk.specs.Axis.{Axis, other, Both, on, laid}
 use Rattle.theory_walk.specs.Walk.{Queued, Board, Setting, Run, going, stopped, step1, step2, each, begin4, last4, walk, records_on, ends_on}
 use Rattle.theory_walk.specs.OnList.{written}
-use Rattle.theory_walk.proofs.Tests.{Every, nil, more}
+use Rattle.theory_walk.proofs.Tests.{nil}
 use Rattle.theory_walk.proofs.LinesLaws.{Each}
 use Rattle.theory_walk.proofs.WalkLaws.{Kept, Clear}
 use Rattle.theory_walk.proofs.OnLists.{records_none}
 use Rattle.placing_request.specs.Items.{axis_of}
-use Rattle.placing_request.proofs.Items.{queued}
 use Rattle.placing_laying.specs.declared.Matrix.{Matrix}
 use Rattle.placing_laying.specs.declared.Stepped.{Stepped}
 use Rattle.placing_laying.specs.declared.Stepped.TheVariants.{Done, Refused}
-use Rattle.placing_laying.specs.Ready.{setting_for, Ready, Stopped, AfterStep}
+use Rattle.placing_laying.specs.Ready.{Ready, Stopped, AfterStep}
 use Rattle.placing_step2.specs.Ends.{NoEnds}
 use Rattle.placing_run.specs.Runs.{empty_board, run_for, LeftBy, AfterRun}
 

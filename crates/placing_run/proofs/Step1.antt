@@ -22,7 +22,7 @@ use Rattle.placing_laying.specs.declared.Laid.{Laid}
 use Rattle.placing_laying.specs.declared.Laid.TheVariants.{On, Short}
 use Rattle.placing_laying.specs.declared.Stepped.TheVariants.{Done, Refused}
 use Rattle.placing_laying.specs.Laying.{Laying}
-use Rattle.placing_laying.specs.Ready.{setting_for, Ready, Stopped, AfterItem, AfterStep, primary_of, secondary_of}
+use Rattle.placing_laying.specs.Ready.{setting_for, Ready, AfterItem, AfterStep, primary_of, secondary_of}
 use Rattle.placing_laying.proofs.Lays.{put_laid}
 
 pub pass_primary : (w : Setting) (i : ℕ) (P S : Placement) (t : Board) (n : ℕ) → P ≡ Spanned n → step1 w i P S t ≡ going t

@@ -1,5 +1,5 @@
 -- What a checked request comes to, as the program answers it: the final counts of columns and rows, or a list's number and an item's index.
-use Rattle.std.specs.Prelude.{Bool, cond, ℕ}
+use Rattle.std.specs.Prelude.{Bool, cond}
 use Rattle.theory_walk.specs.Request.{Outcome, refused, answered}
 use Rattle.placing_laying.specs.declared.Stepped.{Stepped}
 use Rattle.placing_laying.specs.declared.Stepped.TheVariants as S

@@ -2,7 +2,7 @@
 use Rattle.std.specs.Prelude.{◌≡◌, Bool, List, [], ℕ, ℤ, pos, length, replicate}
 use Rattle.theory_intervals.specs.OverInt.{flat}
 use Rattle.grid_track_counts.specs.declared.TrackCounts.{TrackCounts}
-use Rattle.theory_walk.specs.Axis.{other, Both, on, laid}
+use Rattle.theory_walk.specs.Axis.{other, on, laid}
 use Rattle.theory_walk.specs.Search.{at}
 use Rattle.theory_walk.specs.Walk.{Board, Run, going, stopped, records_on, walk}
 use Rattle.theory_walk.specs.OnList.{written}

@@ -1,5 +1,4 @@
 -- `by_columns` meets its contract.
-use borrow.Author.Rules.{rules}
 use mathlib.Core.Path.{sym, ap}
 use Rattle.placing_run.specs.Placing.{by_columns}
 use Rattle.placing_run.proofs.checked.by_columns.Goals as goal

@@ -1,20 +1,13 @@
 -- `place_checked` meets its contract: the flow names the primary axis, and what the run leaves is the document's outcome.
-use borrow.Author.Rules.{rules}
 use borrow.Author.Tests.{eq-eqb, ne_eqb}
-use mathlib.Core.Path.{◌≡◌, refl, sym, ap, ◌∙◌}
-use mathlib.Core.Bool.{true, false}
-use mathlib.Core.List.{List, ◌++◌}
-use mathlib.Core.Option.{none}
-use Prim.Native.Nat.{ℕ, ◌*◌, ◌/◌, ◌%◌, ◌-◌, ◌≤◌}
+use mathlib.Core.Path.{◌≡◌, ◌∙◌}
+use Prim.Native.Nat.{ℕ, ◌*◌, ◌/◌, ◌%◌, ◌-◌}
 use native.Mathlib.Omega.{arith}
-use lib.Dec.{eqb}
-use lib.IntN.{ℤ}
-use lib.ListN.{length, take, drop, length-take}
-use Rattle.theory_walk.specs.Request.{Request, checked}
+use lib.ListN.{length, take, length-take}
+use Rattle.theory_walk.specs.Request.{Request}
 use Rattle.theory_walk.proofs.Checks.{Passed, checked_none}
 use Rattle.placing_request.specs.Items.{request_of}
 use Rattle.placing_laying.specs.Ready.{Items}
-use Rattle.placing_run.specs.Placing.{by_columns}
 use Rattle.placing_run.proofs.Outcomes.{passed_items, run_by_columns, run_by_rows}
 use Rattle.placing_run.proofs.checked.place_checked.Goals.{Start}
 use Rattle.placing_run.proofs.checked.place_checked.Goals as goal

@@ -1,18 +1,13 @@
 -- `place_definite_item` meets its contract: an item that is not fixed in both axes is passed over, and any other is laid, which is `put` on the board.
-use borrow.Author.Rules.{rules}
-use mathlib.Core.Path.{◌≡◌, refl, sym, ap, ◌∙◌, subst}
-use mathlib.Core.Bool.{Bool, not}
-use mathlib.Core.List.{List}
-use Prim.Native.Nat.{ℕ}
+use mathlib.Core.Path.{◌≡◌, refl, sym, ap, ◌∙◌}
 use native.Mathlib.Omega.{arith}
-use lib.IntN.{ℤ}
 use Rattle.theory_signed.proofs.Laws.{signed}
-use Rattle.theory_walk.specs.Axis.{Axis, Both, on}
-use Rattle.theory_walk.specs.Walk.{Board, step1}
+use Rattle.theory_walk.specs.Axis.{Axis, on}
+use Rattle.theory_walk.specs.Walk.{step1}
 use Rattle.theory_walk.specs.Request.{item_of}
 use Rattle.placing_request.specs.Items.{item_at}
 use Rattle.placing_laying.specs.Ready.{setting_for, primary_of, secondary_of}
-use Rattle.placing_laying.proofs.Lays.{primary_holds, secondary_holds, sound_primary, sound_secondary, laying_long, passed, other_axis}
+use Rattle.placing_laying.proofs.Lays.{primary_holds, secondary_holds, sound_primary, sound_secondary, passed, other_axis}
 use Rattle.placing_run.proofs.Step1.{pass_primary, pass_secondary, step1_laid}
 use Rattle.placing_run.proofs.definite.place_definite_item.Goals.{After-placement_on-2}
 use Rattle.placing_run.proofs.definite.place_definite_item.Goals as goal

@@ -1,13 +1,9 @@
 -- `place_definite_items` meets its contract: the loop goes along what is left of the step.
-use borrow.Author.Rules.{rules}
-use mathlib.Core.Path.{◌≡◌, refl}
+use mathlib.Core.Path.{refl}
 use mathlib.Core.Bool.{false}
-use Prim.Native.Nat.{ℕ, ◌+◌, ◌-◌, ◌/◌, ◌≤◌}
 use native.Mathlib.Omega.{arith}
-use lib.ListN.{length}
-use Rattle.placing_laying.specs.Ready.{Items}
-use Rattle.placing_laying.proofs.Lays.{Lengths, items_upto}
-use Rattle.placing_run.proofs.Step1.{Going, going_none, going_on, going_stops, going_done}
+use Rattle.placing_laying.proofs.Lays.{items_upto}
+use Rattle.placing_run.proofs.Step1.{going_none, going_on, going_stops, going_done}
 use Rattle.placing_run.proofs.definite.place_definite_items.Goals as goal
 
 pub loop-i-init : goal.loop-i-init

@@ -1,11 +1,7 @@
-use mathlib.Core.Path.{◌≡◌, refl}
-use mathlib.Core.Bool.{false}
-use Prim.Native.Nat.{ℕ, ◌+◌, ◌-◌, ◌/◌, ◌≤◌}
-use native.Mathlib.Omega.{arith}
+use Prim.Native.Nat.{◌-◌, ◌/◌, ◌≤◌}
 use lib.ListN.{length}
-use Rattle.placing_laying.specs.Ready.{Items}
-use Rattle.placing_laying.proofs.Lays.{Lengths, items_upto}
-use Rattle.placing_run.proofs.Step1.{Going, going_none, going_on, going_stops, going_done}
+use Rattle.placing_laying.proofs.Lays.{Lengths}
+use Rattle.placing_run.proofs.Step1.{Going}
 use Rattle.placing_run.proofs.definite.place_definite_items.Given as goal
 
 abbrev pub invariant-loop-i : goal.invariant-loop-i

@@ -1,5 +1,4 @@
 -- `place_items` meets its contract: cleared lists stand for an empty board, and from there the run is the walk.
-use borrow.Author.Rules.{rules}
 use mathlib.Core.Path.{◌≡◌}
 use Prim.Native.Nat.{ℕ}
 use native.Mathlib.Omega.{arith}

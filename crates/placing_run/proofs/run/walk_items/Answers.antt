@@ -1,5 +1,4 @@
 -- `walk_items` meets its contract: the walk is its three steps, and the first that stops ends it.
-use borrow.Author.Rules.{rules}
 use mathlib.Core.Path.{sym}
 use mathlib.Core.List.{List}
 use Prim.Native.Nat.{ℕ}
