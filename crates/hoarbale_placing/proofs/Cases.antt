@@ -6,7 +6,6 @@ use mathlib.Core.List.{List, [], ◌∷◌, ◌++◌, map}
 use Prim.Native.Nat.{ℕ, ◌*◌, ◌/◌}
 use lib.ListN.{length, replicate}
 use lib.IntN.{ℤ, pos, negsuc}
-use Rattle.grid_coordinates.specs.declared.Lines.{Lines}
 use Rattle.grid_coordinates.specs.Line.{clamp_to, lines, limited, pressed, origin_zero_of}
 use Rattle.theory_intervals.specs.Records.{Area, area}
 use Rattle.theory_intervals.specs.OverInt.{span}

@@ -1,13 +1,13 @@
 -- Refusals of the calls on lines: "Given exactly when".
-use mathlib.Core.Path.{◌≡◌, refl, sym, subst, ◌∙◌}
+use mathlib.Core.Path.{◌≡◌, refl}
 use mathlib.Core.Bool.{Bool, true, false, cond, not, ◌&&◌}
 use mathlib.Core.Logic.{◌⊎◌, inl, inr, ◌↔◌}
-use Prim.Native.Nat.{ℕ, ◌<◌, ◌≤◌}
+use Prim.Native.Nat.{ℕ, ◌<◌}
 use native.Mathlib.Omega.{arith}
-use borrow.Author.Tests.{leb-true, leb-false, lt-leb, le-leb}
-use lib.Dec.{T, leb}
+use borrow.Author.Tests.{leb-false, lt-leb}
+use lib.Dec.{leb}
 use lib.IntN.{ℤ, pos}
-use lib.Signed.{le_z, ◌<ℤ◌, ◌≤ℤ◌}
+use lib.Signed.{le_z, ◌<ℤ◌}
 use Rattle.theory_signed.specs.Parts.{eq_z}
 use Rattle.theory_signed.proofs.Laws.{signed, eq_yes, eq_of, by_test, g_le_false}
 use Rattle.grid_coordinates.specs.Line.{lowest, highest, origin_zero_of, css_of}

@@ -3,7 +3,7 @@ use mathlib.Core.Path.{◌≡◌, refl, sym, ap, ◌∙◌, subst}
 use mathlib.Core.Bool.{Bool, true, false, cond, ◌&&◌}
 use mathlib.Core.List.{List, [], ◌∷◌, ◌++◌}
 use mathlib.Core.Logic.{◌↔◌, ◌⊎◌, inl, inr}
-use Prim.Native.Nat.{ℕ, ◌*◌, ◌≤◌, ◌<◌, ◌%◌}
+use Prim.Native.Nat.{ℕ, ◌*◌, ◌≤◌, ◌%◌}
 use native.Mathlib.Omega.{arith}
 use lib.ListN.{length, replicate}
 use lib.IntN.{ℤ, pos}
@@ -23,7 +23,6 @@ use Rattle.hoarbale_placing.specs.Series.{series, accepted, noted, over_cell, Fi
 use Rattle.hoarbale_lists.specs.declared.Checked.TheVariants as C
 use Rattle.hoarbale_lists.specs.declared.PaintAnswer.{PaintAnswer}
 use Rattle.hoarbale_lists.specs.declared.PaintAnswer.TheVariants as P
-use Rattle.hoarbale_lists.specs.declared.JumpAnswer.{JumpAnswer}
 use Rattle.hoarbale_lists.specs.declared.JumpAnswer.TheVariants as A
 use Rattle.hoarbale_placing.proofs.Outcome as O
 use Rattle.hoarbale_placing.proofs.Outcome.{Is, why, because, left_of, same_cells, of_kept}

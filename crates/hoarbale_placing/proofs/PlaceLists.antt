@@ -14,7 +14,7 @@ use Rattle.theory_intervals.proofs.Lists.{flat_recs, holds_decode}
 use Rattle.theory_walk.specs.Axis.{Axis, col, row, on, Both}
 use Rattle.grid_track_counts.specs.declared.TrackCounts.{TrackCounts}
 use Rattle.theory_walk.specs.Walk.{Queued, Tile, Board, Setting, going, tile_of, laid_on, begin4, area_on, records_on, walk}
-use Rattle.theory_walk.proofs.Tests.{nil, more}
+use Rattle.theory_walk.proofs.Tests.{more}
 use Rattle.theory_walk.proofs.FreeLaws.{Tiled}
 use Rattle.theory_walk.proofs.WalkLaws.{Roomy, anyone, walk_keeps}
 use Rattle.theory_walk.proofs.Cells.{history, history_good, Coloured, records_hold}

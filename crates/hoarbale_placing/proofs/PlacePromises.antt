@@ -13,7 +13,7 @@ use lib.ListN.{length, take, drop, replicate, get_or, length-append, length-repl
 use lib.Seq.{take_at, drop_at, drop-append-add}
 use Rattle.theory_signed.proofs.Laws.{by_test}
 use Rattle.theory_intervals.specs.Records.{Area}
-use Rattle.theory_intervals.specs.OverInt.{cell_of, state_at, decode, ok, flat}
+use Rattle.theory_intervals.specs.OverInt.{cell_of, state_at, decode, flat}
 use Rattle.theory_intervals.specs.Lists.{kept}
 use Rattle.grid_coordinates.specs.declared.Lines.{Lines}
 use Rattle.grid_coordinates.specs.Line.{limited}
@@ -24,12 +24,11 @@ use Rattle.theory_walk.specs.declared.Placement.TheVariants.{Fixed, Spanned}
 use Rattle.theory_walk.specs.Axis.{Axis, col, row, other, Both, on, laid, from, Extent, limited_area, pressed_area}
 use Rattle.theory_walk.specs.Search.{Place}
 use Rattle.theory_walk.specs.Walk.{Item, Tile, Board, Setting, Choice, Run, going, stopped, bit, tile_of, records_on, start2, free_at, start4, free_across, free_pair, overwide, untested}
-use Rattle.theory_walk.specs.Request.{Request, Refusal, Outcome, refused, answered, Half, half, checked, halves, placing_of, item_of, item_count, setting_of, up_to, items_of, queue_of, start_of, growth_of, run_of, numbers, answer_of, answers_of, outcome, answers_left, rows_left, columns_left}
+use Rattle.theory_walk.specs.Request.{Request, Refusal, Outcome, refused, answered, Half, half, checked, halves, placing_of, item_of, item_count, setting_of, up_to, queue_of, start_of, growth_of, run_of, numbers, answer_of, answers_of, outcome, answers_left, rows_left, columns_left}
 use Rattle.theory_walk.specs.Rules.{FirstLine, FirstPair, finds, finds_line, finds_pair, lays_untested, mine1, wide, Settled, by1, by2, by4, Walked, Full}
-use Rattle.theory_walk.proofs.Tests.{Every, nil, more}
+use Rattle.theory_walk.proofs.Tests.{Every}
 use Rattle.theory_walk.proofs.LinesLaws.{GrowsBoth, CoversArea}
-use Rattle.theory_walk.proofs.WalkLaws.{Least, WithStates}
-use Rattle.theory_walk.proofs.Cells.{history, Coloured, Cell, both_lists}
+use Rattle.theory_walk.proofs.Cells.{history, Cell, both_lists}
 use Rattle.theory_walk.proofs.Checks.{checked_low}
 use Rattle.theory_walk.proofs.Ruled.{full_number}
 use Rattle.theory_walk.proofs.Origins.{Origin, Before, fixed_takes, origin_mark, mark_bits}
@@ -37,7 +36,6 @@ use Rattle.theory_walk.proofs.Promises as W
 use Rattle.placing_request.specs.Items.{item_at}
 use Rattle.placing_request.proofs.Items.{halves_at}
 use Rattle.placing_run.specs.Placing as S
-use Rattle.placing_run.specs.declared.checked.Placing.{Placing}
 use Rattle.placing_run.specs.declared.checked.Placing.TheVariants.{Placed, Refused}
 use Rattle.hoarbale_placing.specs.Placing.{placing_number, placing_index, placing_columns, placing_rows}
 use Rattle.hoarbale_placing.specs.Calls.{Call, asked, Back, Meets, LengthRight, Broken, Passes, areas}

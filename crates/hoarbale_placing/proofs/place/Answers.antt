@@ -1,5 +1,4 @@
 -- `place` meets its contract: a refusal by 1 to 6 leaves everything as it was, and a request that passes is placed.
-use borrow.Author.Rules.{rules}
 use mathlib.Core.Path.{sym, ap, ◌∙◌}
 use lib.ListN.{length}
 use Rattle.theory_walk.specs.Request.{Request, checked}
