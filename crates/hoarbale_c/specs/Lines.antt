@@ -1,5 +1,4 @@
 -- The answers of the door as structs of numbers.
-use Rattle.std.specs.Prelude.{◌≡◌, ℤ, ℕ}
 use Rattle.hoarbale_lines.specs.declared.OriginZeroAnswer.{OriginZeroAnswer}
 use Rattle.hoarbale_lines.specs.declared.CssAnswer.{CssAnswer}
 use Rattle.hoarbale_lines.specs.declared.IndexAnswer.{IndexAnswer}

@@ -1,5 +1,4 @@
 -- `hoarbale_css_line` meets its contract: it tells the door's answer by numbers.
-use borrow.Author.Rules.{rules}
 use mathlib.Core.Path.{◌≡◌, sym, ap, ◌∙◌}
 use mir.Facts.{to_z-of_z}
 use Rattle.theory_signed.proofs.Laws.{fit16}

@@ -1,5 +1,4 @@
 -- `hoarbale_occupied_track_jump` meets its contract: it tells the door's answer by numbers.
-use borrow.Author.Rules.{rules}
 use mathlib.Core.Path.{ap, ◌∙◌}
 use mir.Facts.{to_z-of_z}
 use Rattle.hoarbale_c.specs.Lists.{of_jump}

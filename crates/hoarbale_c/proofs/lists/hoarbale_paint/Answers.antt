@@ -1,5 +1,4 @@
 -- `hoarbale_paint` meets its contract: it tells the door's answer by its number.
-use borrow.Author.Rules.{rules}
 use mathlib.Core.Path.{◌≡◌, sym, ap, ◌∙◌}
 use mathlib.Core.List.{List}
 use lib.IntN.{ℤ}

@@ -1,5 +1,4 @@
 -- `hoarbale_records_of_track` meets its contract.
-use borrow.Author.Rules.{rules}
 use mir.Facts.{to_z-of_z}
 use Rattle.hoarbale_c.proofs.lists.hoarbale_records_of_track.Goals as goal
 

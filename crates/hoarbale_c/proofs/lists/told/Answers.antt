@@ -1,6 +1,5 @@
 -- `told` meets its contract.
-use borrow.Author.Rules.{rules}
-use mathlib.Core.Path.{sym, ap, ◌∙◌}
+use mathlib.Core.Path.{sym, ap}
 use mir.Facts.{to_z-of_z}
 use Rattle.theory_signed.proofs.Laws.{fit16}
 use Rattle.hoarbale_c.specs.Lists.{of_jump}

@@ -1,5 +1,4 @@
 -- `hoarbale_place` meets its contract: it tells the door's answer by numbers.
-use borrow.Author.Rules.{rules}
 use mathlib.Core.Path.{ap, ◌∙◌}
 use Rattle.hoarbale_c.specs.Placing.{of_placing}
 use Rattle.hoarbale_c.proofs.placing.hoarbale_place.Goals as goal

@@ -1,6 +1,5 @@
 -- `of_placing` meets its contract.
-use borrow.Author.Rules.{rules}
-use mathlib.Core.Path.{sym, ap, ◌∙◌}
+use mathlib.Core.Path.{sym, ap}
 use Rattle.hoarbale_c.specs.Placing.{of_placing}
 use Rattle.hoarbale_c.proofs.placing.of_placing.Goals as goal
 
