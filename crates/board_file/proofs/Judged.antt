@@ -1,24 +1,22 @@
 -- Judging a file: each way to refusal 12, what a good file's length is, and how a good file comes to the door's outcome.
 use mathlib.Core.Path.{◌≡◌, refl, sym, ap, ◌∙◌}
-use mathlib.Core.Bool.{Bool, true, false, not, cond, ◌&&◌, ◌||◌}
+use mathlib.Core.Bool.{true, false}
 use mathlib.Core.List.{List, ◌++◌}
-use mathlib.Core.Option.{Option, some}
-use Prim.Native.Nat.{ℕ, ◌+◌, ◌*◌, ◌/◌, ◌%◌, ◌≤◌, ◌<◌}
+use mathlib.Core.Option.{some}
+use Prim.Native.Nat.{ℕ, ◌*◌, ◌/◌, ◌%◌, ◌≤◌, ◌<◌}
 use native.Mathlib.Omega.{arith}
-use borrow.Author.Tests.{leb-true, eqb-true, lt-ltb, le-ltb, lt-leb, le-leb, eq-eqb, ne_eqb}
-use lib.Dec.{eqb, leb, ltb}
+use borrow.Author.Tests.{lt-ltb, le-ltb, lt-leb, le-leb, eq-eqb}
+use lib.Dec.{eqb, ltb}
 use lib.IntN.{ℤ}
 use lib.ListN.{length, get_or, take, drop}
-use Rattle.theory_intervals.proofs.Grid.{and_l, and_r, and_i}
 use Rattle.theory_walk.specs.Request.{Request, Refusal, Outcome, checked, outcome, answers_left, rows_left, columns_left, no}
 use Rattle.theory_walk.proofs.Promises.{checks_refuse, refusal_unchanged}
 use Rattle.placing_request.specs.Items.{request_of}
 use Rattle.placing_run.specs.declared.checked.Placing.{Placing}
 use Rattle.placing_run.specs.Placing.{placing_of}
 use Rattle.board_bytes.specs.declared.header.Head.{Head}
-use Rattle.board_bytes.specs.declared.header.FileHeader.TheVariants as H
 use Rattle.board_file.specs.declared.FileAnswer.TheVariants as A
-use Rattle.board_bytes.specs.File.{word_at, length_told, numbers, counts_at, head_of, items_in, good_file, header_of}
+use Rattle.board_bytes.specs.File.{word_at, numbers, head_of, items_in, good_file}
 use Rattle.board_file.specs.File.{request_in, file_outcome, answer_of, file_answers_left, file_rows_left, file_columns_left, file_items_left}
 use Rattle.board_bytes.proofs.Judged.{head_count}
 use Rattle.board_bytes.proofs.Words.{length_numbers, take_numbers}

@@ -1,5 +1,5 @@
 -- A file placed: refusal 12, or the outcome of the request that the file tells.
-use Rattle.std.specs.Prelude.{◌≡◌, Bool, cond, ◌&&◌, List, ◌++◌, ℕ, ◌*◌, leb, ℤ, length, get_or, drop}
+use Rattle.std.specs.Prelude.{◌≡◌, cond, ◌&&◌, List, ◌++◌, ℕ, ◌*◌, leb, ℤ, length, get_or, drop}
 use Rattle.theory_walk.specs.Request.{Request, Outcome, refused, outcome, answers_left, rows_left, columns_left}
 use Rattle.placing_request.specs.Items.{request_of}
 use Rattle.placing_run.specs.Placing.{placing_of}

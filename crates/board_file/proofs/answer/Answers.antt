@@ -1,7 +1,6 @@
 -- `answer` meets its contract.
 use mathlib.Core.Path.{sym, ap}
 use Rattle.board_file.specs.File.{answer_of}
-use borrow.Author.Rules.{rules}
 use Rattle.board_file.proofs.answer.Goals as goal
 
 pub returns-in-Refused : goal.returns-in-Refused

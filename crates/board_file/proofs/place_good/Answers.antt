@@ -1,12 +1,10 @@
 -- `place_good` meets its contract: too many items are refused as the door would, others are read and given to the door.
-use mathlib.Core.Path.{sym, ap, ◌∙◌}
-use Prim.Native.Nat.{◌*◌}
+use mathlib.Core.Path.{◌∙◌}
 use native.Mathlib.Omega.{arith}
 use lib.ListN.{length}
 use Rattle.board_bytes.proofs.Words.{part_length}
 use Rattle.board_bytes.proofs.Judged.{good_length, head_count, head_flow}
 use Rattle.board_file.proofs.Judged.{same_request, flow_refused, count_refused, many_refused, read_whole, read_left, door}
-use borrow.Author.Rules.{rules}
 use Rattle.board_file.proofs.place_good.Goals as goal
 
 pub returns-then-flow-gt3 : goal.returns-then-flow-gt3
