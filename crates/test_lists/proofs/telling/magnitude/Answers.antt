@@ -1,5 +1,4 @@
 -- `magnitude` is safe: a number of 16 bits has its negative in 32.
-use borrow.Author.Rules.{rules}
 use Rattle.theory_signed.proofs.Laws.{signed, rng}
 use Rattle.test_lists.proofs.telling.magnitude.Goals as goal
 

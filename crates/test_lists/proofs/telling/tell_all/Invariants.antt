@@ -1,7 +1,6 @@
 use mathlib.Core.Path.{◌≡◌}
 use Prim.Native.Nat.{◌≤◌, ◌-◌}
 use lib.ListN.{length}
-use native.Mathlib.Omega.{arith}
 use Rattle.test_lists.proofs.telling.tell_all.Given as goal
 
 abbrev pub invariant-loop-i : goal.invariant-loop-i
