@@ -1,5 +1,5 @@
 -- `prefixes` meets its contract: at most one a turn.
-use Rattle.std.proofs.Common.{◌+◌, ◌-◌, ◌≤◌, sym, arith, length-take-le, rules}
+use Rattle.std.proofs.Common.{sym, arith, length-take-le}
 use Rattle.test_boards.proofs.damaged.prefixes.Goals as goal
 
 pub slice_bounds-refused-end : goal.slice_bounds-refused-end

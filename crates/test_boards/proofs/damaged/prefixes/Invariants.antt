@@ -1,4 +1,4 @@
-use Rattle.std.proofs.Common.{◌+◌, ◌-◌, ◌≤◌, sym, arith, length-take-le, rules}
+use Rattle.std.proofs.Common.{◌+◌, ◌-◌, ◌≤◌}
 use Rattle.test_boards.proofs.damaged.prefixes.Given as goal
 
 abbrev pub invariant-loop-n : goal.invariant-loop-n
