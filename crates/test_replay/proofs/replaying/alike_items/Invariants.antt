@@ -1,8 +1,4 @@
 use Prim.Native.Nat.{◌≤◌, ◌-◌, ◌*◌}
-use native.Mathlib.Omega.{arith}
-use Rattle.test_replay.proofs.replaying.alike_items.Reads as reads
-use Rattle.test_replay.proofs.replaying.alike_items.Lts as lts
-use Rattle.test_replay.proofs.replaying.alike_item.Reads as alike-item-reads
 use Rattle.test_replay.proofs.replaying.alike_items.Given as goal
 
 abbrev pub invariant-loop-i : goal.invariant-loop-i

@@ -1,12 +1,5 @@
 -- `compare_all` is safe and ends.
-use borrow.Author.Rules.{rules}
-use Prim.Native.Nat.{◌≤◌, ◌+◌, ◌-◌, ◌*◌}
 use native.Mathlib.Omega.{arith}
-use mathlib.Core.Path.{◌≡◌}
-use lib.ListN.{length}
-use Rattle.test_replay.proofs.replaying.compare_all.Reads as reads
-use Rattle.test_replay.proofs.replaying.compare_all.Lts as lts
-use Rattle.test_replay.proofs.replaying.next.Reads as next-reads
 use Rattle.test_replay.proofs.replaying.compare_all.Goals as goal
 
 -- src/replaying.rt:216:9

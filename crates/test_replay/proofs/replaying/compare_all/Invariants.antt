@@ -1,10 +1,6 @@
 use Prim.Native.Nat.{◌≤◌, ◌+◌, ◌-◌, ◌*◌}
-use native.Mathlib.Omega.{arith}
 use mathlib.Core.Path.{◌≡◌}
 use lib.ListN.{length}
-use Rattle.test_replay.proofs.replaying.compare_all.Reads as reads
-use Rattle.test_replay.proofs.replaying.compare_all.Lts as lts
-use Rattle.test_replay.proofs.replaying.next.Reads as next-reads
 use Rattle.test_replay.proofs.replaying.compare_all.Given as goal
 
 abbrev pub invariant-loop-i : goal.invariant-loop-i

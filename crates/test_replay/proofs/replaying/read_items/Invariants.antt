@@ -1,10 +1,6 @@
 use Prim.Native.Nat.{◌≤◌, ◌-◌}
 use mathlib.Core.Path.{◌≡◌}
-use native.Mathlib.Omega.{arith}
-use lib.ListN.{length, length-set}
-use Rattle.test_replay.proofs.replaying.read_items.Reads as reads
-use Rattle.test_replay.proofs.replaying.read_items.Lts as lts
-use Rattle.test_replay.proofs.data.number.Reads as number-reads
+use lib.ListN.{length}
 use Rattle.test_replay.proofs.replaying.read_items.Given as goal
 
 abbrev pub invariant-loop-i : goal.invariant-loop-i
