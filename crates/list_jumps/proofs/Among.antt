@@ -43,7 +43,7 @@ record At (n : ℕ) (t a b : ℕ → ℤ) (x y z : ℤ) : Type 0 where
   end : b i ≡ z
 
 rows_has : (n : ℕ) (t a b : ℕ → ℤ) (s : ℕ → ℕ) {x y z : ℤ} → Has x y z (rows n t a b s) → At n t a b x y z
-rows_has zero t a b s {y = y} {z = z} x3 = elim x3 [ ]
+rows_has zero t a b s x = elim x [ ]
 rows_has (suc n) t a b s here = record { i = 0; in_list = omega arith; track = refl; start = refl; end = refl }
 rows_has (suc n) t a b s (there m) =
     let r = rows_has n (λ i. t (suc i)) (λ i. a (suc i)) (λ i. b (suc i)) (λ i. s (suc i)) m in
@@ -66,7 +66,7 @@ record Behind (u d t x y : ℤ) : Type 0 where
   long : x <ℤ y
 
 is_behind : (u d : ℤ) (v : ℕ) (rs : List (Rec ℤ)) {t x y : ℤ} → behind lt_z ok u d v rs ≡ true → Has t x y rs → Behind u d t x y
-is_behind u d v [] {t = t} {x = x} {y = y} h x4 = elim x4 [ ]
+is_behind u d v [] h x = elim x [ ]
 is_behind u d v (rec t x y s ∷ rs) h here =
     let j = and₃ (lt_z x y) (ok s) (behind lt_z ok t y s rs) (and_r (follows lt_z u d v t x s) (lt_z x y && (ok s && behind lt_z ok t y s rs)) h) in
     let f = follows_is u d v t x s (and_l (follows lt_z u d v t x s) (lt_z x y && (ok s && behind lt_z ok t y s rs)) h) in
@@ -84,7 +84,7 @@ is_behind u d v (rec w c e s ∷ rs) {t} {x} {y} h (there m) =
 -- ---- on a track the last overlapping record has the largest end
 
 extent_most : (u d : ℤ) (v : ℕ) (rs : List (Rec ℤ)) {t x y : ℤ} (a b e : ℤ) → behind lt_z ok u d v rs ≡ true → Has t x y rs → overlaps a b x y ≡ true → extent_of (on_track t rs) a b ≡ X.Ends e → y ≤ℤ e
-extent_most u d v [] {t = t} {x = x} {y = y} a b e h x6 o q = elim x6 [ ]
+extent_most u d v [] a b e h x o q = elim x [ ]
 extent_most u d v (rec t x y s ∷ rs) a b e h here o q = go (or_else_ends (extent_of (on_track t rs) a b) (cond (overlaps a b x y) (X.Ends y) X.Free) e (rw (self t) at q))
   where
     self : (t : ℤ) → same lt_z t t ≡ true
@@ -116,7 +116,7 @@ extent_most u d v (rec w c f s ∷ rs) {t} {x} {y} a b e h (there m) o q = go (t
 
 -- any list that keeps the rules stands behind some record
 most : (rs : List (Rec ℤ)) {t x y : ℤ} (a b e : ℤ) → keeps rs ≡ true → Has t x y rs → overlaps a b x y ≡ true → extent_of (on_track t rs) a b ≡ X.Ends e → y ≤ℤ e
-most [] {t = t} {x = x} {y = y} a b e h m o q = elim m [ ]
+most [] a b e h m o q = elim m [ ]
 most (rec u c d s ∷ rs) {t} {x} {y} a b e h m o q =
     let z : lt_z (u -ℤ pos 1) u ≡ true = g_lt_true (u -ℤ pos 1) u (omega (signed, dif u (pos 1))) in
     extent_most (u -ℤ pos 1) d s (rec u c d s ∷ rs) {t = t} {x = x} {y = y} a b e (rw z h) m o q

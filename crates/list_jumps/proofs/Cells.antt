@@ -52,7 +52,7 @@ pub data Has (t c d : ℤ) : List (Rec ℤ) → Type 0 where
   there : {r : Rec ℤ} {rs : List (Rec ℤ)} → Has t c d rs → Has t c d (r ∷ rs)
 
 pub has_order : {t c d : ℤ} {rs : List (Rec ℤ)} → Sound rs → Has t c d rs → (c <ℤ d) × (d ≤ℤ pos 10000)
-has_order {t = t} {c = c} {d = d} none x3 = elim x3 [ ]
+has_order none x = elim x [ ]
 has_order (more a b e w) here = (a, e)
 has_order (more a b e w) (there h) = has_order w h
 
@@ -60,7 +60,7 @@ within : (t a b p : ℤ) → a ≤ℤ p → p <ℤ b → same lt_z t t && betwee
 within t a b p h k = rw (g_lt_false t t (omega signed), g_lt_false p a (omega signed), g_lt_true p b (omega signed))
 
 pub has_cell : {t c d : ℤ} {rs : List (Rec ℤ)} (p : ℤ) → Sound rs → Has t c d rs → c ≤ℤ p → p <ℤ d → cell_of rs t p ≢ 0
-has_cell {t = t} {c = c} {d = d} p none x7 h k = elim x7 [ ]
+has_cell p none x h k = elim x [ ]
 has_cell {t} {c} {d} p (more {s = v} {rs = rs} a b e w) here h k = λ z. let q : cell_of (rec t c d v ∷ rs) t p ≡ v = rw (within t c d p h k) in b (sym q ∙ z)
 has_cell {t} {c} {d} p (more {t = u} {c = x} {d = y} {s = v} {rs = rs} a b e w) (there m) h k = go (test (same lt_z t u && between lt_z x y p)) (has_cell p w m h k)
   where

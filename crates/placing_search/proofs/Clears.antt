@@ -67,12 +67,12 @@ look (rec t c d s ∷ rs) l w = go (test (hit col (rec t c d s) (laid col l w)))
     go (nay e) (taken m a b x y) = taken (there m) a b x y
 
 pub has_track : {t c d : ℤ} (rs : List (Rec ℤ)) → all_in rs ≡ true → Has t c d rs → t ≤ℤ pos 9999
-has_track {t = t} {c = c} {d = d} [] h x'' = elim x'' [ ]
+has_track [] h x = elim x [ ]
 has_track {t} {c} {d} (rec u x y s ∷ rs) h here = (in_is t c d s (and_l (in_grid (rec t c d s)) (all_in rs) h)).t_hi
 has_track (rec u x y s ∷ rs) h (there m) = has_track rs (and_r (in_grid (rec u x y s)) (all_in rs) h) m
 
 pub inside_has : {g e t c d : ℤ} {rs : List (Rec ℤ)} → Inside rs g e → Has t c d rs → (g ≤ℤ c) × (d ≤ℤ e)
-inside_has {t = t} {c = c} {d = d} (I.none {g = g} {e = e}) x5 = elim x5 [ ]
+inside_has I.none x = elim x [ ]
 inside_has (I.more a b w) here = (a, b)
 inside_has (I.more a b w) (there m) = inside_has w m
 
