@@ -4,9 +4,11 @@
 usage: python3 tools/respell.py [--check] [ROOT]
 
 It reads which names the files of specs/ and proofs/ declare, and turns those in camel case (clampTo) and those joined by dashes
-(clamp-is) to snake case (clamp_to, clamp_is), in crates/ and in the pages. A name that begins with a type keeps its dash
-(Keeps-cell), and so does each name that Rattle makes: those are not declared in a lemma's file. Two names that would fall together,
-or a name that a file uses for something else already, stop it; OWN has the names chosen by hand for these.
+(clamp-is) to snake case (clamp_to, clamp_is), in crates/. A name that begins with a type keeps its dash (Keeps-cell), and so does
+each name that Rattle makes: those are not declared in a lemma's file. Two names that would fall together, or a name that a file uses
+for something else already, stop it; OWN has the names chosen by hand for these.
+
+It was run once, on the tree as the kit's script had left it, and is kept as the record of that (docs/PORT.md).
 """
 
 import collections

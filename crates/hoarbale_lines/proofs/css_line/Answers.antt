@@ -21,28 +21,28 @@ module _ (c : After-struct_told-1) where
   abbrev z : ℤ
   z = c.args.line.0
 
-  f-z : SFits w16 z
-  f-z = fit16 z c.struct_told-1.given.0.1
+  f_z : SFits w16 z
+  f_z = fit16 z c.struct_told-1.given.0.1
 
 pub returns-then-z : goal.returns-then-z
 unfolding css_answer
 returns-then-z c =
     let b = (goal.at.returns-then-z c).After-struct_told-1 in
-    rw (le-leb b.args.explicit 10000 b.if-explicit-gt10000.false, g_le_false lowest (z b) (omega (signed, f-z b, c.if-z.true)))
+    rw (le-leb b.args.explicit 10000 b.if-explicit-gt10000.false, g_le_false lowest (z b) (omega (signed, f_z b, c.if-z.true)))
 
 pub returns-then-z-2 : goal.returns-then-z-2
 unfolding css_answer
 returns-then-z-2 c =
     let t = c.before.before.before in
     let b = (goal.at.returns-then-z-2 c).After-struct_told-1 in
-    rw (le-leb b.args.explicit 10000 b.if-explicit-gt10000.false, g_le_true lowest (z b) (omega (signed, f-z b, t.if-z.false)), g_le_false (z b) highest (omega (signed, f-z b, c.if-z-2.true)))
+    rw (le-leb b.args.explicit 10000 b.if-explicit-gt10000.false, g_le_true lowest (z b) (omega (signed, f_z b, t.if-z.false)), g_le_false (z b) highest (omega (signed, f_z b, c.if-z-2.true)))
 
 pub into_grid_line-requires : goal.into_grid_line-requires
 into_grid_line-requires c =
     let t = c.before.before.before in
     let b = (goal.at.into_grid_line-requires c).After-struct_told-1 in
     record {
-      in_grid = record { fits = f-z b; low = omega (signed, f-z b, t.if-z.false); high = omega (signed, f-z b, c.if-z-2.false) };
+      in_grid = record { fits = f_z b; low = omega (signed, f_z b, t.if-z.false); high = omega (signed, f_z b, c.if-z-2.false) };
       explicit_bound = omega arith;
     }
 
@@ -52,5 +52,5 @@ returns c =
     let u = c.before in
     let t = u.before.before.before in
     let b = (goal.at.returns c).After-struct_told-1 in
-    rw (le-leb b.args.explicit 10000 b.if-explicit-gt10000.false, g_le_true lowest (z b) (omega (signed, f-z b, t.if-z.false)), g_le_true (z b) highest (omega (signed, f-z b, u.if-z-2.false)))
+    rw (le-leb b.args.explicit 10000 b.if-explicit-gt10000.false, g_le_true lowest (z b) (omega (signed, f_z b, t.if-z.false)), g_le_true (z b) highest (omega (signed, f_z b, u.if-z-2.false)))
     (ap (λ (v : ℤ). Css.Line (record { 0 = v })) c.into_grid_line.ensures)

@@ -21,14 +21,14 @@ module _ (c : After-struct_told-1) where
   abbrev z : ℤ
   z = c.args.line.0
 
-  f-z : SFits w16 z
-  f-z = fit16 z c.struct_told-1.given.0.1
+  f_z : SFits w16 z
+  f_z = fit16 z c.struct_told-1.given.0.1
 
 pub returns-then-line-eq0 : goal.returns-then-line-eq0
 unfolding origin_zero_answer
 returns-then-line-eq0 c =
     let b = (goal.at.returns-then-line-eq0 c).After-struct_told-1 in
-    let e = same {b = pos 0} (f-z b) (fit16 (pos 0) (lit< tt)) c.if-line-eq0.true in
+    let e = same {b = pos 0} (f_z b) (fit16 (pos 0) (lit< tt)) c.if-line-eq0.true in
     rw (le-leb b.args.explicit 10000 b.if-explicit-gt10000.false, eq_yes (z b) (pos 0) (omega signed))
 
 pub returns : goal.returns

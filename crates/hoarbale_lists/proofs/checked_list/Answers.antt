@@ -27,7 +27,7 @@ passed c =
     rw (eq-eqb (length l % 4) 0 c.if-list-ne0.false, le-leb (length l) 1048576 c.if-list-gt1048576.false, c.kept-held.ensures) (used_checked l)
 
 pub returns-in-Records : goal.returns-in-Records
-returns-in-Records c = let h = c in sym (passed h.before ∙ ap of_used h.in-Records.is)
+returns-in-Records c = sym (passed c.before ∙ ap of_used c.in-Records.is)
 
 pub returns-in-Broken : goal.returns-in-Broken
 returns-in-Broken c = sym (passed c.before ∙ ap of_used c.in-Broken.is)

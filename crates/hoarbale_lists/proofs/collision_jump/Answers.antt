@@ -53,9 +53,8 @@ collision_jump-requires c = record {
 pub returns-in-Refused : goal.returns-in-Refused
 unfolding collision_answer
 returns-in-Refused c =
-    let b = c in
-    let a = b.args in
-    sym (ap (collision_of a.list.now a.track_start a.track_end a.start a.end) (sym b.checked_list-checked.ensures ∙ b.in-Refused.is))
+    let a = c.args in
+    sym (ap (collision_of a.list.now a.track_start a.track_end a.start a.end) (sym c.checked_list-checked.ensures ∙ c.in-Refused.is))
 
 pub returns-else-end-start : goal.returns-else-end-start
 unfolding collision_answer

@@ -50,9 +50,8 @@ returns-then-track_start-track_end c =
 pub returns-in-Refused : goal.returns-in-Refused
 unfolding occupied_answer
 returns-in-Refused c =
-    let b = c in
-    let a = b.args in
-    sym (ap (occupied_of a.list.now a.track_start a.track_end) (sym b.checked_list-checked.ensures ∙ b.in-Refused.is))
+    let a = c.args in
+    sym (ap (occupied_of a.list.now a.track_start a.track_end) (sym c.checked_list-checked.ensures ∙ c.in-Refused.is))
 
 pub returns-else-track_start-track_end : goal.returns-else-track_start-track_end
 unfolding occupied_answer

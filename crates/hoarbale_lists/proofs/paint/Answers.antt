@@ -80,9 +80,8 @@ returns-in-NoRoom c =
 
 pub returns-in-Refused : goal.returns-in-Refused
 returns-in-Refused c =
-    let b = c in
-    let a = b.args in
-    let both = refused_answer a.list.now (area_of a.track_start a.track_end a.start a.end a.state) (sym b.checked_list-checked.ensures ∙ b.in-Refused.is) in
+    let a = c.args in
+    let both = refused_answer a.list.now (area_of a.track_start a.track_end a.start a.end a.state) (sym c.checked_list-checked.ensures ∙ c.in-Refused.is) in
     record { value = both.0; list_after = both.1 }
 
 pub returns-else-good_area : goal.returns-else-good_area

@@ -21,10 +21,9 @@ place_checked-requires c =
 
 pub returns-in-Refused : goal.returns-in-Refused
 returns-in-Refused c =
-    let h = c in
-    let k = h.before in
+    let k = c.before in
     let s = k.before in
-    let x = check_refused (checked (req s)) _ _ (sym k.check_request-check.ensures ∙ h.in-Refused.is) in
+    let x = check_refused (checked (req s)) _ _ (sym k.check_request-check.ensures ∙ c.in-Refused.is) in
     let l = refusal_unchanged (req s) _ x in
     record {
       value = sym (ap placing_of (checks_refuse (req s) _ _ x));

@@ -1,4 +1,4 @@
--- `paint_cut` meets its contract. What `cut_track` finds is found once (`found`); each need below is read from it.
+-- `paint_cut` meets its contract. What `cut_track` finds is found once (`found`); each goal below is read from it.
 use mathlib.Core.Path.{◌≡◌, sym, subst}
 use Prim.Native.Nat.{ℕ, ◌+◌, ◌-◌, ◌*◌, ◌≤◌}
 use native.Mathlib.Omega.{arith}
@@ -17,12 +17,11 @@ use Rattle.list_in_place.proofs.paint_cut.Goals as goal
 
 pub cut_track-found-requires : goal.cut_track-found-requires
 cut_track-found-requires c =
-    let s = c in
-    let g = s.requires.gapped.0 in
-    let f = s.ranges in
+    let g = c.requires.gapped.0 in
+    let f = c.ranges in
     record {
       n_in_bounds = omega (arith, g.low, g.high, g.room);
-      apart = apart16 s.args.list.now s.args.r f.t f.a f.b f.s (s_apart g s.requires.good s.requires.late);
+      apart = apart16 c.args.list.now c.args.r f.t f.a f.b f.s (s_apart g c.requires.good c.requires.late);
     }
 
 module _ (c : After-cut_track-found) where
@@ -69,11 +68,11 @@ module _ (c : After-move_down) where
   abbrev cut : After-cut_track-found
   cut = c.before.before.before.before
 
-  down-at : 4 * cut.cut_track-found.result.past - 4 * (cut.cut_track-found.result.past - cut.cut_track-found.result.first - cut.cut_track-found.result.new) ≡ 4 * (cut.cut_track-found.result.first + cut.cut_track-found.result.new)
-  down-at = let t = c.if-n-k.true in omega (arith, low cut, t)
+  down_at : 4 * cut.cut_track-found.result.past - 4 * (cut.cut_track-found.result.past - cut.cut_track-found.result.first - cut.cut_track-found.result.new) ≡ 4 * (cut.cut_track-found.result.first + cut.cut_track-found.result.new)
+  down_at = let t = c.if-n-k.true in omega (arith, low cut, t)
 
   down_long : length c.move_down.new.list ≡ length (s cut).args.list.now
-  down_long = x_long (s cut).requires.gapped.0 (s cut).requires.gapped.1 (s cut).requires.good (s cut).requires.late (found cut) (fits cut) _ _ down-at c.move_down.ensures
+  down_long = x_long (s cut).requires.gapped.0 (s cut).requires.gapped.1 (s cut).requires.good (s cut).requires.late (found cut) (fits cut) _ _ down_at c.move_down.ensures
 
 pub overflow_mul-i : goal.overflow_mul-i
 overflow_mul-i c = let k = cut c.before.before in omega (arith, low k, high k, room k)
@@ -104,8 +103,8 @@ returns-then-n-k c =
     let y = c.put_in.ensures in
     let z : ℕ → Type 0 = λ (m : ℕ). c.wipe.new.list ≡ paste c.put_in.new.list (4 * m) (replicate (4 * a.used - 4 * m) (pos 0)) (4 * a.used - 4 * m) in
     subst (λ (m : ℕ). InPlace a.a a.b a.s a.t a.list.now a.r a.used c.wipe.new.list i m) e
-    (placed o.requires.gapped.0 o.requires.gapped.1 o.requires.good o.requires.late (found k) (fits k) _ _ (down-at d) d.move_down.ensures _ y _
-    (shrunk_is o.requires.gapped.0 o.requires.gapped.1 o.requires.good o.requires.late (found k) (fits k) _ _ (down-at d) d.move_down.ensures _ y (omega (arith, low k, high k, t)) _ (subst z (sym e) c.wipe.ensures)))
+    (placed o.requires.gapped.0 o.requires.gapped.1 o.requires.good o.requires.late (found k) (fits k) _ _ (down_at d) d.move_down.ensures _ y _
+    (shrunk_is o.requires.gapped.0 o.requires.gapped.1 o.requires.good o.requires.late (found k) (fits k) _ _ (down_at d) d.move_down.ensures _ y (omega (arith, low k, high k, t)) _ (subst z (sym e) c.wipe.ensures)))
 
 pub overflow_mul-j-2 : goal.overflow_mul-j-2
 overflow_mul-j-2 c = let k = c.before.before.before in omega (arith, high k, room k)

@@ -27,7 +27,7 @@ within : (c : After-before_late-past) → c.before_late-past.result ≤ c.args.r
 within c = let a = c.args in rw (past_is c) (last_le a.list.now a.t a.b (of_z w16 a.s) a.r)
 
 pub after_early-first-requires : goal.after_early-first-requires
-after_early-first-requires c = let k = c in let g = k.requires.gapped.0 in omega (arith, within k, g.low, g.high, g.room)
+after_early-first-requires c = let g = c.requires.gapped.0 in omega (arith, within c, g.low, g.high, g.room)
 
 -- once both searches are done
 module _ (c : After-after_early-first) where
@@ -56,7 +56,7 @@ module _ (c : After-after_early-first) where
   room = s.requires.used_in_bounds
 
 pub joined-one-requires : goal.joined-one-requires
-joined-one-requires c = let k = c in (order k, omega (arith, bound k, room k))
+joined-one-requires c = (order c, omega (arith, bound c, room c))
 
 -- the records that are reached become one
 module _ (c : Then-one) where

@@ -39,8 +39,8 @@ module _ (z : Start) where
   by_track : t <ℤ u → true ≡ follow_at l k (k + 4)
   by_track h = rw (g_lt_true t u (omega signed))
 
-  not-track : u <ℤ t → false ≡ follow_at l k (k + 4)
-  not-track h = rw (g_lt_false t u (omega signed), g_lt_true u t (omega signed))
+  not_track : u <ℤ t → false ≡ follow_at l k (k + 4)
+  not_track h = rw (g_lt_false t u (omega signed), g_lt_true u t (omega signed))
 
   by_line : t ≡ u → b <ℤ c₂ → true ≡ follow_at l k (k + 4)
   by_line e h = rw (g_lt_false t u (omega signed), g_lt_false u t (omega signed), g_lt_true b c₂ (omega signed))
@@ -51,17 +51,17 @@ module _ (z : Start) where
   by_state : t ≡ u → b ≡ c₂ → s <ℤ v → true ≡ follow_at l k (k + 4)
   by_state e i h = rw (g_lt_false t u (omega signed), g_lt_false u t (omega signed), g_lt_false b c₂ (omega signed), g_lt_false c₂ b (omega signed), g_lt_true s v (omega signed))
 
-  by-state₂ : t ≡ u → b ≡ c₂ → v <ℤ s → true ≡ follow_at l k (k + 4)
-  by-state₂ e i h = rw (g_lt_false t u (omega signed), g_lt_false u t (omega signed), g_lt_false b c₂ (omega signed), g_lt_false c₂ b (omega signed), g_lt_false s v (omega signed), g_lt_true v s (omega signed))
+  by_state₂ : t ≡ u → b ≡ c₂ → v <ℤ s → true ≡ follow_at l k (k + 4)
+  by_state₂ e i h = rw (g_lt_false t u (omega signed), g_lt_false u t (omega signed), g_lt_false b c₂ (omega signed), g_lt_false c₂ b (omega signed), g_lt_false s v (omega signed), g_lt_true v s (omega signed))
 
-  not-state : t ≡ u → b ≡ c₂ → s ≡ v → false ≡ follow_at l k (k + 4)
-  not-state e i h = rw (g_lt_false t u (omega signed), g_lt_false u t (omega signed), g_lt_false b c₂ (omega signed), g_lt_false c₂ b (omega signed), g_lt_false s v (omega signed), g_lt_false v s (omega signed))
+  not_state : t ≡ u → b ≡ c₂ → s ≡ v → false ≡ follow_at l k (k + 4)
+  not_state e i h = rw (g_lt_false t u (omega signed), g_lt_false u t (omega signed), g_lt_false b c₂ (omega signed), g_lt_false c₂ b (omega signed), g_lt_false s v (omega signed), g_lt_false v s (omega signed))
 
 pub returns-then-track-track2 : goal.returns-then-track-track2
 returns-then-track-track2 c = by_track c.before.before.before (omega signed)
 
 pub returns-then-track2-track : goal.returns-then-track2-track
-returns-then-track2-track c = not-track c.before.before.before.before (omega signed)
+returns-then-track2-track c = not_track c.before.before.before.before (omega signed)
 
 pub returns-then-end-start2 : goal.returns-then-end-start2
 returns-then-end-start2 c = by_line c.before.before.before.before.before.before.before (omega signed) (omega signed)
@@ -73,7 +73,7 @@ pub returns-then-state-state2 : goal.returns-then-state-state2
 returns-then-state-state2 c = by_state c.before.before.before.before.before.before.before.before.before.before.before (omega signed) (omega signed) (omega signed)
 
 pub returns-then-state2-state : goal.returns-then-state2-state
-returns-then-state2-state c = by-state₂ c.before.before.before.before.before.before.before.before.before.before.before.before (omega signed) (omega signed) (omega signed)
+returns-then-state2-state c = by_state₂ c.before.before.before.before.before.before.before.before.before.before.before.before (omega signed) (omega signed) (omega signed)
 
 pub returns : goal.returns
-returns c = not-state c.before.before.before.before.before.before.before.before.before.before.before.before (omega signed) (omega signed) (omega signed)
+returns c = not_state c.before.before.before.before.before.before.before.before.before.before.before.before (omega signed) (omega signed) (omega signed)

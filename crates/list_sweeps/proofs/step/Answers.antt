@@ -1,4 +1,4 @@
--- `step` meets its contract. What `cut_track` finds is found once (`found`); each need below is read from it.
+-- `step` meets its contract. What `cut_track` finds is found once (`found`); each goal below is read from it.
 use Prim.Native.Nat.{◌+◌, ◌-◌, ◌≤◌}
 use native.Mathlib.Omega.{arith}
 use mir.Syntax.{w16}
@@ -11,12 +11,11 @@ use Rattle.list_sweeps.proofs.step.Goals as goal
 
 pub cut_track-found-requires : goal.cut_track-found-requires
 cut_track-found-requires c =
-    let s = c in
-    let g = s.requires.gapped in
-    let f = s.ranges in
+    let g = c.requires.gapped in
+    let f = c.ranges in
     record {
       n_in_bounds = omega (arith, g.low, g.high, g.room);
-      apart = apart16 s.args.list.now s.args.r f.t f.a f.b f.s (s_apart g s.requires.good s.requires.late);
+      apart = apart16 c.args.list.now c.args.r f.t f.a f.b f.s (s_apart g c.requires.good c.requires.late);
     }
 
 -- what was found, said of the arguments

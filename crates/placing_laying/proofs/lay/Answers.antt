@@ -47,29 +47,29 @@ module _ (c : After-into_limited_grid-s_limiting) where
   s_is : sl ≡ limited start.args.s
   s_is = c.into_limited_grid-s_limiting.ensures.0
 
-  p-limited : Limited pl
-  p-limited = subst Limited (sym p_is) (limited_meets start.args.p)
+  p_limited : Limited pl
+  p_limited = subst Limited (sym p_is) (limited_meets start.args.p)
 
-  s-limited : Limited sl
-  s-limited = subst Limited (sym s_is) (limited_meets start.args.s)
+  s_limited : Limited sl
+  s_limited = subst Limited (sym s_is) (limited_meets start.args.s)
 
-  both-limited : Limited pl × Limited sl
-  both-limited = (p-limited, s-limited)
+  both_limited : Limited pl × Limited sl
+  both_limited = (p_limited, s_limited)
 
   -- the state is what is read back from its bits
   state_is : to_z w16 (of_z w16 start.args.state) ≡ start.args.state
   state_is = to_z-of_z start.ranges.state
 
-  state-good : (pos 1 ≤ℤ to_z w16 (of_z w16 start.args.state)) × (to_z w16 (of_z w16 start.args.state) ≤ℤ pos 2)
-  state-good = rw (state_is) start.requires.pos_bound
+  state_good : (pos 1 ≤ℤ to_z w16 (of_z w16 start.args.state)) × (to_z w16 (of_z w16 start.args.state) ≤ℤ pos 2)
+  state_good = rw (state_is) start.requires.pos_bound
 
 pub is_short-primary_short-requires : goal.is_short-primary_short-requires
 is_short-primary_short-requires c =
     let g = c.before.before.before in
     record {
       holds = (start g).requires.holds.0;
-      limited = (p-limited g, s-limited g);
-      pos_bound = state-good g;
+      limited = (p_limited g, s_limited g);
+      pos_bound = state_good g;
     }
 
 pub is_short-secondary_short-requires : goal.is_short-secondary_short-requires
@@ -77,8 +77,8 @@ is_short-secondary_short-requires c =
     let g = c.before.before.before.before in
     record {
       holds = (start g).requires.holds.1;
-      limited = (s-limited g, p-limited g);
-      pos_bound = state-good g;
+      limited = (s_limited g, p_limited g);
+      pos_bound = state_good g;
     }
 
 -- once room is judged: what each list needs, and the refusal
@@ -92,30 +92,30 @@ module _ (c : After-refusal_of-refusal) where
   abbrev begun : Start
   begun = start both
 
-  abbrev on-p : List (Rec ℤ)
-  on-p = on_primary begun.args.columns begun.args.p begun.args.s begun.args.state begun.args.flags begun.args.matrix begun.args.i begun.args.answers.now begun.args.primary.now begun.args.secondary.now
+  abbrev on_p : List (Rec ℤ)
+  on_p = on_primary begun.args.columns begun.args.p begun.args.s begun.args.state begun.args.flags begun.args.matrix begun.args.i begun.args.answers.now begun.args.primary.now begun.args.secondary.now
 
-  abbrev on-s : List (Rec ℤ)
-  on-s = on_secondary begun.args.columns begun.args.p begun.args.s begun.args.state begun.args.flags begun.args.matrix begun.args.i begun.args.answers.now begun.args.primary.now begun.args.secondary.now
+  abbrev on_s : List (Rec ℤ)
+  on_s = on_secondary begun.args.columns begun.args.p begun.args.s begun.args.state begun.args.flags begun.args.matrix begun.args.i begun.args.answers.now begun.args.primary.now begun.args.secondary.now
 
   -- as those say that are called: by the lines that limiting gave, and the state as read back
-  abbrev onto-p : List (Rec ℤ)
-  onto-p = paint_list (area_of (pl both).start (pl both).end (sl both).start (sl both).end (to_z w16 (of_z w16 begun.args.state))) (recs begun.args.matrix.primary_used begun.args.primary.now)
+  abbrev onto_p : List (Rec ℤ)
+  onto_p = paint_list (area_of (pl both).start (pl both).end (sl both).start (sl both).end (to_z w16 (of_z w16 begun.args.state))) (recs begun.args.matrix.primary_used begun.args.primary.now)
 
-  abbrev onto-s : List (Rec ℤ)
-  onto-s = paint_list (area_of (sl both).start (sl both).end (pl both).start (pl both).end (to_z w16 (of_z w16 begun.args.state))) (recs begun.args.matrix.secondary_used begun.args.secondary.now)
+  abbrev onto_s : List (Rec ℤ)
+  onto_s = paint_list (area_of (sl both).start (sl both).end (pl both).start (pl both).end (to_z w16 (of_z w16 begun.args.state))) (recs begun.args.matrix.secondary_used begun.args.secondary.now)
 
-  paint-p : onto-p ≡ on-p
-  paint-p = same_paint (recs begun.args.matrix.primary_used begun.args.primary.now) (p_is both) (s_is both) (state_is both)
+  paint_p : onto_p ≡ on_p
+  paint_p = same_paint (recs begun.args.matrix.primary_used begun.args.primary.now) (p_is both) (s_is both) (state_is both)
 
-  paint-s : onto-s ≡ on-s
-  paint-s = same_paint (recs begun.args.matrix.secondary_used begun.args.secondary.now) (s_is both) (p_is both) (state_is both)
+  paint_s : onto_s ≡ on_s
+  paint_s = same_paint (recs begun.args.matrix.secondary_used begun.args.secondary.now) (s_is both) (p_is both) (state_is both)
 
-  short_p : c.is_short-primary_short.result ≡ short_of (length begun.args.primary.now) on-p
-  short_p = c.is_short-primary_short.ensures ∙ ap (short_of (length begun.args.primary.now)) paint-p
+  short_p : c.is_short-primary_short.result ≡ short_of (length begun.args.primary.now) on_p
+  short_p = c.is_short-primary_short.ensures ∙ ap (short_of (length begun.args.primary.now)) paint_p
 
-  short_s : c.is_short-secondary_short.result ≡ short_of (length begun.args.secondary.now) on-s
-  short_s = c.is_short-secondary_short.ensures ∙ ap (short_of (length begun.args.secondary.now)) paint-s
+  short_s : c.is_short-secondary_short.result ≡ short_of (length begun.args.secondary.now) on_s
+  short_s = c.is_short-secondary_short.ensures ∙ ap (short_of (length begun.args.secondary.now)) paint_s
 
   refused : c.refusal_of-refusal.result ≡ refusal begun.args.columns begun.args.p begun.args.s begun.args.state begun.args.flags begun.args.matrix begun.args.i begun.args.answers.now begun.args.primary.now begun.args.secondary.now
   refused = c.refusal_of-refusal.ensures ∙ (λ j. refusal_of begun.args.columns (short_p j) (short_s j))
@@ -145,11 +145,11 @@ module _ (c : Else-refusal-ne0) where
   none : (judged.is_short-primary_short.result ≡ false) × (judged.is_short-secondary_short.result ≡ false)
   none = neither (begun judged).args.columns judged.is_short-primary_short.result judged.is_short-secondary_short.result (sym judged.refusal_of-refusal.ensures ∙ c.if-refusal-ne0.false)
 
-  room-p : 4 * length (onto-p judged) ≤ length (begun judged).args.primary.now
-  room-p = ltb-false (length (begun judged).args.primary.now) (4 * length (onto-p judged)) (sym judged.is_short-primary_short.ensures ∙ none.0)
+  room_p : 4 * length (onto_p judged) ≤ length (begun judged).args.primary.now
+  room_p = ltb-false (length (begun judged).args.primary.now) (4 * length (onto_p judged)) (sym judged.is_short-primary_short.ensures ∙ none.0)
 
-  room-s : 4 * length (onto-s judged) ≤ length (begun judged).args.secondary.now
-  room-s = ltb-false (length (begun judged).args.secondary.now) (4 * length (onto-s judged)) (sym judged.is_short-secondary_short.ensures ∙ none.1)
+  room_s : 4 * length (onto_s judged) ≤ length (begun judged).args.secondary.now
+  room_s = ltb-false (length (begun judged).args.secondary.now) (4 * length (onto_s judged)) (sym judged.is_short-secondary_short.ensures ∙ none.1)
 
 pub paint_tile-on_primary-requires : goal.paint_tile-on_primary-requires
 paint_tile-on_primary-requires c =
@@ -157,9 +157,9 @@ paint_tile-on_primary-requires c =
     let g = both e.before in
     record {
       holds = (start g).requires.holds.0;
-      limited = (search (both-limited g), search (both-limited g));
-      pos_bound = state-good g;
-      list_in_bounds = room-p e;
+      limited = (search (both_limited g), search (both_limited g));
+      pos_bound = state_good g;
+      list_in_bounds = room_p e;
     }
 
 pub paint_tile-on_secondary-requires : goal.paint_tile-on_secondary-requires
@@ -168,9 +168,9 @@ paint_tile-on_secondary-requires c =
     let g = both e.before in
     record {
       holds = (start g).requires.holds.1;
-      limited = (search (both-limited g), search (both-limited g));
-      pos_bound = state-good g;
-      list_in_bounds = room-s e;
+      limited = (search (both_limited g), search (both_limited g));
+      pos_bound = state_good g;
+      list_in_bounds = room_s e;
     }
 
 pub put_answer-requires : goal.put_answer-requires
@@ -186,7 +186,7 @@ grown-requires c =
     let g = both c.before.before.before.before.before.before.before.before.before.before.before.before in
     record {
       sound = (start g).requires.sound.0;
-      limited = search (both-limited g);
+      limited = search (both_limited g);
     }
 
 pub grown-requires-2 : goal.grown-requires-2
@@ -194,7 +194,7 @@ grown-requires-2 c =
     let g = both c.before.before.before.before.before.before.before.before.before.before.before.before.before in
     record {
       sound = (start g).requires.sound.1;
-      limited = search (both-limited g);
+      limited = search (both_limited g);
     }
 
 -- all is done: each part of the contract
@@ -217,41 +217,41 @@ module _ (c : After-grown-2) where
   abbrev entry : Start
   entry = begun found
 
-  p-now : pl (both found) ≡ limited entry.args.p
-  p-now = p_is (both found)
+  p_now : pl (both found) ≡ limited entry.args.p
+  p_now = p_is (both found)
 
-  s-now : sl (both found) ≡ limited entry.args.s
-  s-now = s_is (both found)
+  s_now : sl (both found) ≡ limited entry.args.s
+  s_now = s_is (both found)
 
-  p-grown : c.grown.result ≡ grown entry.args.matrix.primary (limited entry.args.p)
-  p-grown = c.grown.ensures ∙ ap (grown entry.args.matrix.primary) p-now
+  p_grown : c.grown.result ≡ grown entry.args.matrix.primary (limited entry.args.p)
+  p_grown = c.grown.ensures ∙ ap (grown entry.args.matrix.primary) p_now
 
-  s-grown : c.grown-2.result ≡ grown entry.args.matrix.secondary (limited entry.args.s)
-  s-grown = c.grown-2.ensures ∙ ap (grown entry.args.matrix.secondary) s-now
+  s_grown : c.grown-2.result ≡ grown entry.args.matrix.secondary (limited entry.args.s)
+  s_grown = c.grown-2.ensures ∙ ap (grown entry.args.matrix.secondary) s_now
 
   written : answering.put_answer.new.answers ≡ sets entry.args.answers.now (5 * entry.args.i) (answer_five (laid (axis_of entry.args.columns) (limited entry.args.p) (limited entry.args.s)) (mark_of entry.args.p entry.args.s entry.args.flags))
-  written = answering.put_answer.ensures ∙ (λ j. sets entry.args.answers.now (5 * entry.args.i) (answer_five (laid (axis_of entry.args.columns) (p-now j) (s-now j)) (mark_is found j)))
+  written = answering.put_answer.ensures ∙ (λ j. sets entry.args.answers.now (5 * entry.args.i) (answer_five (laid (axis_of entry.args.columns) (p_now j) (s_now j)) (mark_is found j)))
 
-  count-p : first.paint_tile-on_primary.result ≡ length (on-p found)
-  count-p = first.paint_tile-on_primary.ensures.value ∙ ap length (paint-p found)
+  count_p : first.paint_tile-on_primary.result ≡ length (on_p found)
+  count_p = first.paint_tile-on_primary.ensures.value ∙ ap length (paint_p found)
 
-  count-s : second.paint_tile-on_secondary.result ≡ length (on-s found)
-  count-s = second.paint_tile-on_secondary.ensures.value ∙ ap length (paint-s found)
+  count_s : second.paint_tile-on_secondary.result ≡ length (on_s found)
+  count_s = second.paint_tile-on_secondary.ensures.value ∙ ap length (paint_s found)
 
-  p-painted : first.paint_tile-on_primary.new.list ≡ flat (length entry.args.primary.now) (on-p found)
-  p-painted = first.paint_tile-on_primary.ensures.list_after ∙ ap (flat (length entry.args.primary.now)) (paint-p found)
+  p_painted : first.paint_tile-on_primary.new.list ≡ flat (length entry.args.primary.now) (on_p found)
+  p_painted = first.paint_tile-on_primary.ensures.list_after ∙ ap (flat (length entry.args.primary.now)) (paint_p found)
 
-  s-painted : second.paint_tile-on_secondary.new.list ≡ flat (length entry.args.secondary.now) (on-s found)
-  s-painted = second.paint_tile-on_secondary.ensures.list_after ∙ ap (flat (length entry.args.secondary.now)) (paint-s found)
+  s_painted : second.paint_tile-on_secondary.new.list ≡ flat (length entry.args.secondary.now) (on_s found)
+  s_painted = second.paint_tile-on_secondary.ensures.list_after ∙ ap (flat (length entry.args.secondary.now)) (paint_s found)
 
 pub returns : goal.returns
 returns c =
     inl (
     record {
       room = sym (refused (found c)) ∙ (roomy c).if-refusal-ne0.false;
-      result = λ j. On (record { primary = p-grown c j; secondary = s-grown c j; primary_used = count-p c j; secondary_used = count-s c j });
+      result = λ j. On (record { primary = p_grown c j; secondary = s_grown c j; primary_used = count_p c j; secondary_used = count_s c j });
       answered = written c;
-      onto_primary = p-painted c;
-      onto_secondary = s-painted c;
+      onto_primary = p_painted c;
+      onto_secondary = s_painted c;
     }
     )

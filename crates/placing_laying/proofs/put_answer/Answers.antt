@@ -11,26 +11,26 @@ module _ (c : After-struct_told-4-1) where
   abbrev start : Start
   start = c.before.before.before.before
 
-  f-p-start : SFits w16 start.args.p.start
-  f-p-start = fit16 start.args.p.start c.struct_told-1.given.0.1
+  f_p_start : SFits w16 start.args.p.start
+  f_p_start = fit16 start.args.p.start c.struct_told-1.given.0.1
 
-  f-p-end : SFits w16 start.args.p.end
-  f-p-end = fit16 start.args.p.end c.struct_told-1.given.1.0.1
+  f_p_end : SFits w16 start.args.p.end
+  f_p_end = fit16 start.args.p.end c.struct_told-1.given.1.0.1
 
-  f-s-start : SFits w16 start.args.s.start
-  f-s-start = fit16 start.args.s.start c.struct_told-3-1.given.0.1
+  f_s_start : SFits w16 start.args.s.start
+  f_s_start = fit16 start.args.s.start c.struct_told-3-1.given.0.1
 
-  f-s-end : SFits w16 start.args.s.end
-  f-s-end = fit16 start.args.s.end c.struct_told-3-1.given.1.0.1
+  f_s_end : SFits w16 start.args.s.end
+  f_s_end = fit16 start.args.s.end c.struct_told-3-1.given.1.0.1
 
 pub returns-then-columns : goal.returns-then-columns
 returns-then-columns c =
     let t = c.before.before.before in
     let b = t.before in
-    rw t.if-columns.true (rw (to_z-of_z (f-p-start b), to_z-of_z (f-p-end b), to_z-of_z (f-s-start b), to_z-of_z (f-s-end b)) at c.put_five.ensures)
+    rw t.if-columns.true (rw (to_z-of_z (f_p_start b), to_z-of_z (f_p_end b), to_z-of_z (f_s_start b), to_z-of_z (f_s_end b)) at c.put_five.ensures)
 
 pub returns : goal.returns
 returns c =
     let t = c.before.before.before in
     let b = t.before in
-    rw t.if-columns.false (rw (to_z-of_z (f-s-start b), to_z-of_z (f-s-end b), to_z-of_z (f-p-start b), to_z-of_z (f-p-end b)) at c.put_five-2.ensures)
+    rw t.if-columns.false (rw (to_z-of_z (f_s_start b), to_z-of_z (f_s_end b), to_z-of_z (f_p_start b), to_z-of_z (f_p_end b)) at c.put_five-2.ensures)

@@ -6,15 +6,15 @@ use Rattle.placing_request.specs.Items.{item_at}
 use Rattle.placing_request.proofs.item_is_good.Goals.{After-half_is_good, After-half_is_good-then-half_is_good}
 use Rattle.placing_request.proofs.item_is_good.Goals as goal
 
-columns-good : (c : After-half_is_good) → c.half_is_good.result ≡ good_half (item_at c.args.items.now c.args.i).columns
-columns-good c =
+columns_good : (c : After-half_is_good) → c.half_is_good.result ≡ good_half (item_at c.args.items.now c.args.i).columns
+columns_good c =
     let n₃ = c.before in
     let n₂ = n₃.before in
     let n₁ = n₂.before in
     rw (to_z-of_z n₁.part.ensures.sfits, to_z-of_z n₂.part-2.ensures.sfits, to_z-of_z n₃.part-3.ensures.sfits, n₁.part.ensures.value, n₂.part-2.ensures.value, n₃.part-3.ensures.value) at c.half_is_good.ensures
 
-rows-good : (c : After-half_is_good-then-half_is_good) → c.half_is_good-then-half_is_good.result ≡ good_half (item_at c.args.items.now c.args.i).rows
-rows-good c =
+rows_good : (c : After-half_is_good-then-half_is_good) → c.half_is_good-then-half_is_good.result ≡ good_half (item_at c.args.items.now c.args.i).rows
+rows_good c =
     let n₆ = c.before in
     let n₅ = n₆.before in
     let n₄ = n₅.before in
@@ -23,7 +23,7 @@ rows-good c =
 pub returns-then-half_is_good : goal.returns-then-half_is_good
 returns-then-half_is_good c =
     let t = c.before.before.before.before in
-    rw (sym (columns-good t.before) ∙ t.if-half_is_good.true) (rows-good c)
+    rw (sym (columns_good t.before) ∙ t.if-half_is_good.true) (rows_good c)
 
 pub returns : goal.returns
-returns c = rw (sym (columns-good c.before) ∙ c.if-half_is_good.false)
+returns c = rw (sym (columns_good c.before) ∙ c.if-half_is_good.false)

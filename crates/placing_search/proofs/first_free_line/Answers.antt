@@ -29,11 +29,11 @@ module _ (c : After-struct_told-2-1) where
   fit_low : SFits w16 c.args.tracks.start
   fit_low = fit16 c.args.tracks.start c.struct_told-1.given.0.1
 
-  fit-high : SFits w16 c.args.tracks.end
-  fit-high = fit16 c.args.tracks.end c.struct_told-1.given.1.0.1
+  fit_high : SFits w16 c.args.tracks.end
+  fit_high = fit16 c.args.tracks.end c.struct_told-1.given.1.0.1
 
   order : low ≤ℤ high
-  order = let h = c.requires.start_lt_end in omega (signed, fit_low, fit-high)
+  order = let h = c.requires.start_lt_end in omega (signed, fit_low, fit_high)
 
 pub overflow_cast-n : goal.overflow_cast-n
 overflow_cast-n c = search rules
@@ -53,7 +53,7 @@ begins : (c : After-lower-first) → let a = c.before.before.before in Split a.a
 begins c = split_as (to_z-of_z (overflow_cast-track_start c.before)) c.lower-first.ensures.1
 
 pub overflow_cast-track_end : goal.overflow_cast-track_end
-overflow_cast-track_end c = omega (signed, fit-high c.before)
+overflow_cast-track_end c = omega (signed, fit_high c.before)
 
 pub lower-past-requires : goal.lower-past-requires
 lower-past-requires c =
@@ -106,17 +106,17 @@ module _ (q : At-loop-e) where
   after_is : after ≡ p +ℤ pos a.args.span
   after_is = omega (signed, overflow_cast-n tracks, overflow_add-line q)
 
-jump-is : (k : After-collision_between-jump) → let q = k.before in k.collision_between-jump.result ≡ collision_jump (recs (a q).args.used (a q).args.list.now) (low (tracks q)) (high (tracks q)) (p q) (after q)
+jump_is : (k : After-collision_between-jump) → let q = k.before in k.collision_between-jump.result ≡ collision_jump (recs (a q).args.used (a q).args.list.now) (low (tracks q)) (high (tracks q)) (p q) (after q)
 unfolding crossed
-jump-is k = k.collision_between-jump.ensures (crossed k.before.before)
+jump_is k = k.collision_between-jump.ensures (crossed k.before.before)
 
 pub returns-in_default : goal.returns-in_default
 returns-in_default c =
     let k = c.before in
     let q = k.before in
     let t = tracks q in
-    let here = line_here (recs (a q).args.used (a q).args.list.now) (a q).requires.holds.keep (low t) (high t) (a q).args.span (p q) (after q) (after_is q) (sym (jump-is k) ∙ c.in_default.is) in
-    sym (rw (to_z-of_z (fit_low t), to_z-of_z (fit-high t), to_z-of_z (a q).ranges.start) at (q.loop-e.invariant.2 ∙ here))
+    let here = line_here (recs (a q).args.used (a q).args.list.now) (a q).requires.holds.keep (low t) (high t) (a q).args.span (p q) (after q) (after_is q) (sym (jump_is k) ∙ c.in_default.is) in
+    sym (rw (to_z-of_z (fit_low t), to_z-of_z (fit_high t), to_z-of_z (a q).ranges.start) at (q.loop-e.invariant.2 ∙ here))
 
 -- a turn that goes on
 on : (c : In-Next)
@@ -126,7 +126,7 @@ on c =
     let k = c.before in
     let q = k.before in
     let t = tracks q in
-    line_on (recs (a q).args.used (a q).args.list.now) (a q).requires.holds.keep (low t) (high t) (a q).args.span (p q) (after q) c.in-Next.e (after_is q) (sym (jump-is k) ∙ c.in-Next.is)
+    line_on (recs (a q).args.used (a q).args.list.now) (a q).requires.holds.keep (low t) (high t) (a q).args.span (p q) (after q) c.in-Next.e (after_is q) (sym (jump_is k) ∙ c.in-Next.is)
 
 pub loop-e-smaller : goal.loop-e-smaller
 loop-e-smaller c = let t = on c in omega (signed, fit16 c.in-Next.e c.in-Next.known_told-1-own.given.0.1)

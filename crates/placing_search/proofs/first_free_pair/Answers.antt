@@ -66,17 +66,17 @@ module _ (c : After-struct_told-4-1) where
   abbrev secondary₀ : ℤ
   secondary₀ = to_z w16 (of_z w16 c.args.from.secondary)
 
-  fit-start : SFits w16 c.args.grid.start
-  fit-start = fit16 c.args.grid.start c.struct_told-1.given.0.1
+  fit_start : SFits w16 c.args.grid.start
+  fit_start = fit16 c.args.grid.start c.struct_told-1.given.0.1
 
-  fit-end : SFits w16 c.args.grid.end
-  fit-end = fit16 c.args.grid.end c.struct_told-1.given.1.0.1
+  fit_end : SFits w16 c.args.grid.end
+  fit_end = fit16 c.args.grid.end c.struct_told-1.given.1.0.1
 
-  fit-primary : SFits w16 c.args.from.primary
-  fit-primary = fit16 c.args.from.primary c.struct_told-3-1.given.0.1
+  fit_primary : SFits w16 c.args.from.primary
+  fit_primary = fit16 c.args.from.primary c.struct_told-3-1.given.0.1
 
-  fit-secondary : SFits w16 c.args.from.secondary
-  fit-secondary = fit16 c.args.from.secondary c.struct_told-3-1.given.1.0.1
+  fit_secondary : SFits w16 c.args.from.secondary
+  fit_secondary = fit16 c.args.from.secondary c.struct_told-3-1.given.1.0.1
 
   keep : rules rs ≡ true
   keep = c.requires.holds.keep
@@ -85,17 +85,17 @@ module _ (c : After-struct_told-4-1) where
   front = holds_front c.requires.holds
 
   inside : Inside rs begins ends
-  inside = rw (to_z-of_z fit-start, to_z-of_z fit-end) c.requires.inside
+  inside = rw (to_z-of_z fit_start, to_z-of_z fit_end) c.requires.inside
 
   fits : (begins +ℤ pos width) ≤ℤ ends
-  fits = let a = c.requires.primary_span_bound.0 in omega (signed, fit-start, fit-end)
+  fits = let a = c.requires.primary_span_bound.0 in omega (signed, fit_start, fit_end)
 
   small : Small secondary₀ (pos 12000)
-  small = let b = c.requires.primary_bound.1 in (omega (signed, fit-secondary, rng fit-secondary), omega (signed, fit-secondary))
+  small = let b = c.requires.primary_bound.1 in (omega (signed, fit_secondary, rng fit_secondary), omega (signed, fit_secondary))
 
 -- where the records of the first secondary line begin and end
 pub overflow_cast-secondary : goal.overflow_cast-secondary
-overflow_cast-secondary c = omega (signed, fit-secondary c)
+overflow_cast-secondary c = omega (signed, fit_secondary c)
 
 pub lower-first-requires : goal.lower-first-requires
 lower-first-requires c = record {
@@ -104,8 +104,8 @@ lower-first-requires c = record {
   by_index = λ k h. absurd (omega arith);
 }
 
-first-begins : (c : After-lower-first) → Split (l c.before) (count c.before) (secondary₀ c.before) c.lower-first.result
-first-begins c = split_as (to_z-of_z (overflow_cast-secondary c.before)) c.lower-first.ensures.1
+first_begins : (c : After-lower-first) → Split (l c.before) (count c.before) (secondary₀ c.before) c.lower-first.result
+first_begins c = split_as (to_z-of_z (overflow_cast-secondary c.before)) c.lower-first.ensures.1
 
 pub overflow_add-secondary : goal.overflow_add-secondary
 overflow_add-secondary c = let b = small c.before in omega (signed, overflow_cast-m c.before.before.before)
@@ -115,7 +115,7 @@ overflow_cast-secondary-2 c = omega (signed, overflow_add-secondary c)
 
 pub lower-past-requires : goal.lower-past-requires
 lower-past-requires c =
-    let b = first-begins c in
+    let b = first_begins c in
     record {
       front = front c.before;
       from_le_used = b.within;
@@ -134,8 +134,8 @@ search-init c =
     let d = c.before.before in
     let a = d.requires.primary_bound.0 in
     let b = small d in
-    let f = fit-primary d in
-    ((omega (signed, rng f), omega signed), (b.0, omega signed), refl, (first-begins c.before, split_as (behind d (secondary₀ d) (overflow_add-secondary c.before) (overflow_cast-secondary-2 c.before)) c.lower-past.ensures.1))
+    let f = fit_primary d in
+    ((omega (signed, rng f), omega signed), (b.0, omega signed), refl, (first_begins c.before, split_as (behind d (secondary₀ d) (overflow_add-secondary c.before) (overflow_cast-secondary-2 c.before)) c.lower-past.ensures.1))
 
 -- where the search stands
 module _ (b : At-search) where
@@ -203,12 +203,12 @@ module _ (c : In-loop-primary) where
   right_is = omega (signed, overflow_cast-n (given line).before.before, overflow_add-primary c.before)
 
   -- what is tried ends in the grid
-  ends-inside : right ≤ℤ ends (given line)
-  ends-inside = omega signed
+  ends_inside : right ≤ℤ ends (given line)
+  ends_inside = omega signed
 
-jump-is : (k : After-collision_between-jump) → let b = line k.before in k.collision_between-jump.result ≡ collision_jump (rs (given b)) (s b) (below b) (p k.before) (right k.before)
+jump_is : (k : After-collision_between-jump) → let b = line k.before in k.collision_between-jump.result ≡ collision_jump (rs (given b)) (s b) (below b) (p k.before) (right k.before)
 unfolding crossed
-jump-is k = k.collision_between-jump.ensures (crossed (line k.before))
+jump_is k = k.collision_between-jump.ensures (crossed (line k.before))
 
 -- a turn that goes on
 on : (c : In-Next)
@@ -221,7 +221,7 @@ on c =
     let b = line q in
     let a = given b in
     pair_on_lem (rs a) (keep a) (width a) (height a) (begins a) (ends a) (fits a) (p q) (s b) (right q) (below b) c.in-Next.e refl (right_is q)
-    (sym (jump-is k) ∙ c.in-Next.is)
+    (sym (jump_is k) ∙ c.in-Next.is)
 
 pub loop-primary-smaller : goal.loop-primary-smaller
 loop-primary-smaller c = let t = on c in omega (signed, fit16 c.in-Next.e c.in-Next.known_told-1-own.given.0.1)
@@ -294,7 +294,7 @@ search-preserved c =
     let w = within d in
     let i = a.requires.primary_span_bound.1 in
     let f = fits a in (
-      (omega (signed, fit-start a, rng (fit-start a)), omega (signed, fit-start a, fit-end a)),
+      (omega (signed, fit_start a, rng (fit_start a)), omega (signed, fit_start a, fit_end a)),
       (omega (signed, overflow_add-secondary-in-search d), omega (signed, overflow_add-secondary-in-search d)),
       rw (to_z-of_z (overflow_add-secondary-in-search d)) (down d),
       (split_as (to_z-of_z (overflow_cast-secondary-in-search d)) c.lower_ahead-first.ensures.1, split_as (behind a next (overflow_add-secondary-in-search-2 c.before) (overflow_cast-secondary-in-search-2 c.before)) c.lower_ahead-past.ensures.1),
@@ -311,7 +311,7 @@ returns-then-last-grid_start c =
     let found = b.search.invariant.2 ∙ (ap (λ (z : ℤ). pair_found (rs a) (width a) (height a) (begins a) (ends a) z (s b)) stands
     ∙ (stripe_found (rs a) (keep a) (width a) (height a) (begins a) (ends a) (inside a) whole (s b) ∙ ap (λ (x : ℤ). at (begins a) x) (sym c.first_free_stripe-secondary.ensures))) in
     let f = fit16 c.first_free_stripe-secondary.result c.first_free_stripe-secondary.type_inv in
-    rw (to_z-of_z f, to_z-of_z (fit-start a)) (sym (rw (to_z-of_z (fit-start a), to_z-of_z (fit-end a), to_z-of_z (fit-primary a), to_z-of_z (fit-secondary a)) at found))
+    rw (to_z-of_z f, to_z-of_z (fit_start a)) (sym (rw (to_z-of_z (fit_start a), to_z-of_z (fit_end a), to_z-of_z (fit_primary a), to_z-of_z (fit_secondary a)) at found))
 
 pub returns-in_default : goal.returns-in_default
 returns-in_default c =
@@ -319,6 +319,6 @@ returns-in_default c =
     let q = k.before in
     let b = line q in
     let a = given b in
-    let found = pair_here (rs a) (keep a) (width a) (height a) (begins a) (ends a) (fits a) (p q) (s b) (right q) (below b) refl (right_is q) (ends-inside q)
-    (sym (jump-is k) ∙ c.in_default.is) in
-    sym (rw (to_z-of_z (fit-start a), to_z-of_z (fit-end a), to_z-of_z (fit-primary a), to_z-of_z (fit-secondary a)) at (b.search.invariant.2 ∙ (q.loop-primary.invariant.1 ∙ found)))
+    let found = pair_here (rs a) (keep a) (width a) (height a) (begins a) (ends a) (fits a) (p q) (s b) (right q) (below b) refl (right_is q) (ends_inside q)
+    (sym (jump_is k) ∙ c.in_default.is) in
+    sym (rw (to_z-of_z (fit_start a), to_z-of_z (fit_end a), to_z-of_z (fit_primary a), to_z-of_z (fit_secondary a)) at (b.search.invariant.2 ∙ (q.loop-primary.invariant.1 ∙ found)))

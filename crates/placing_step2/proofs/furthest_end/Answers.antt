@@ -51,14 +51,14 @@ module _ (c : After-end_counts) where
   abbrev end : ℤ
   end = recorded_end z.args.columns z.args.answers.now at
 
-  one-back : at + 1 ≡ l.loop-j.j
-  one-back = omega (arith, c.loop-j-test)
+  one_back : at + 1 ≡ l.loop-j.j
+  one_back = omega (arith, c.loop-j-test)
 
   passed_over : counts ≡ false → ends l.loop-j.j ≡ ends at
-  passed_over e = ap ends (sym one-back) ∙ ends_pass z.args.columns z.args.items.now z.args.answers.now line at e
+  passed_over e = ap ends (sym one_back) ∙ ends_pass z.args.columns z.args.items.now z.args.answers.now line at e
 
   put_in : counts ≡ true → ends l.loop-j.j ≡ end ∷ ends at
-  put_in e = ap ends (sym one-back) ∙ ends_more z.args.columns z.args.items.now z.args.answers.now line at e
+  put_in e = ap ends (sym one_back) ∙ ends_more z.args.columns z.args.items.now z.args.answers.now line at e
 
 pub loop-j-preserved-then-not-end_counts : goal.loop-j-preserved-then-not-end_counts
 loop-j-preserved-then-not-end_counts c =
@@ -83,34 +83,34 @@ module _ (c : After-further-best) where
   abbrev better : ℤ
   better = cond (l a).loop-j.found (larger (end a) (to_z w16 (l a).loop-j.best-bits)) (end a)
 
-  does-count : counts a ≡ true
-  does-count = sym a.end_counts.ensures ∙ not-false a.end_counts.result c.if-not-end_counts.false-raw
+  does_count : counts a ≡ true
+  does_count = sym a.end_counts.ensures ∙ not-false a.end_counts.result c.if-not-end_counts.false-raw
 
-  better-is : to_z w16 (of_z w16 c.further-best.result) ≡ better
-  better-is =
+  better_is : to_z w16 (of_z w16 c.further-best.result) ≡ better
+  better_is =
       let r = c.recorded_end.ensures in
       to_z-of_z c.further-best.ensures.sfits ∙ (rw (to_z-of_z r.sfits, r.value) at c.further-best.ensures.value)
 
   all_of : largest_or (to_z w16 (of_z w16 (z a).args.none)) (ends a (z a).args.i) ≡ largest better (ends a (at a))
   all_of =
-      (l a).loop-j.invariant.1 ∙ ap (beside (l a).loop-j.found (to_z w16 (l a).loop-j.best-bits)) (put_in a does-count)
+      (l a).loop-j.invariant.1 ∙ ap (beside (l a).loop-j.found (to_z w16 (l a).loop-j.best-bits)) (put_in a does_count)
       ∙ beside_next (l a).loop-j.found (to_z w16 (l a).loop-j.best-bits) (end a) (ends a (at a))
 
 pub returns-then-starts_at : goal.returns-then-starts_at
 returns-then-starts_at c =
     let f = c.before.before in
     let s = z (a f) in
-    let last = s.requires.onward (at (a f)) (omega (arith, (a f).loop-j-test, (l (a f)).loop-j.invariant.0)) (line (a f)) (does-count f) (sym c.starts_at.ensures ∙ c.if-starts_at.true) in
+    let last = s.requires.onward (at (a f)) (omega (arith, (a f).loop-j-test, (l (a f)).loop-j.invariant.0)) (line (a f)) (does_count f) (sym c.starts_at.ensures ∙ c.if-starts_at.true) in
     let all = all_of f ∙ beside_stop (l (a f)).loop-j.found (to_z w16 (l (a f)).loop-j.best-bits) (end (a f)) (ends (a f) (at (a f))) last in
     record {
       sfits = rw (to_z-of_z f.further-best.ensures.sfits) f.further-best.ensures.sfits;
-      value = better-is f ∙ sym (rw (to_z-of_z s.ranges.none, to_z-of_z s.ranges.start) at all);
+      value = better_is f ∙ sym (rw (to_z-of_z s.ranges.none, to_z-of_z s.ranges.start) at all);
     }
 
 pub loop-j-preserved : goal.loop-j-preserved
 loop-j-preserved c =
     let f = c.before.before in
-    (omega arith, rw (better-is f) (all_of f), rw (to_z-of_z f.further-best.ensures.sfits) f.further-best.ensures.sfits)
+    (omega arith, rw (better_is f) (all_of f), rw (to_z-of_z f.further-best.ensures.sfits) f.further-best.ensures.sfits)
 
 pub returns : goal.returns
 unfolding ends_before

@@ -84,16 +84,15 @@ module _ (c : In-Spanned) where
 
 pub primary_lines-p-requires : goal.primary_lines-p-requires
 primary_lines-p-requires c =
-    let v = c in
-    let p = (z v).requires in
+    let p = (z c).requires in
     let k = p.stands_at.1.1.1 in record {
       items = record { long = omega (arith, p.items.long); good = λ j h. p.items.good j (omega arith) };
       i_in_bounds = omega arith;
       onward = p.onward;
-      start_lt_end = lines_good v;
-      le_span = span_good v;
+      start_lt_end = lines_good c;
+      le_span = span_good c;
       sound = (sound_primary k.0, secondary_holds k.0);
-      primary_bound = (start_grid (z v).args.dense k.0 (z v).args.items.now (z v).args.i k.1 (s v).start).high;
+      primary_bound = (start_grid (z c).args.dense k.0 (z c).args.items.now (z c).args.i k.1 (s c).start).high;
     }
 
 pub lay-requires : goal.lay-requires

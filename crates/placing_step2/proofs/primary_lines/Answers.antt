@@ -41,8 +41,8 @@ module _ (c : After-starting_line-start) where
       ∙ (λ j. start_of z.args.columns z.args.dense z.args.items.now z.args.answers.now (to_z-of_z (fit16 z.args.s.start c.struct_told-2-1.given.0.1) j) z.args.i
       ((to_z-of_z (fit16 g.implicit_start_line-grid_start.result.0 t.struct_told-1.given.0.1) ∙ g.implicit_start_line-grid_start.ensures) j))
 
-  begin-high : begin ≤ℤ pos 10000
-  begin-high = z.requires.primary_bound
+  begin_high : begin ≤ℤ pos 10000
+  begin_high = z.requires.primary_bound
 
   read : to_z w16 (of_z w16 c.starting_line-start.result) ≡ begin
   read = to_z-of_z c.starting_line-start.ensures.sfits ∙ begins
@@ -51,7 +51,7 @@ pub first_free_line-line-requires : goal.first_free_line-line-requires
 first_free_line-line-requires c =
     let p = (z c).requires in
     let e = read c in
-    let h = begin-high c in
+    let h = begin_high c in
     record {
       holds = p.sound.1;
       start_lt_end = p.start_lt_end;
@@ -75,7 +75,7 @@ module _ (c : After-first_free_line-line) where
   high : line ≤ℤ pos 10000
   high =
       line_high (z b).args.secondary.now (z b).args.matrix.secondary_used (z b).requires.sound.1 (z b).args.span (z b).args.s (begin b)
-      (begin-high b)
+      (begin_high b)
 
 pub overflow_cast-n : goal.overflow_cast-n
 overflow_cast-n c = search rules

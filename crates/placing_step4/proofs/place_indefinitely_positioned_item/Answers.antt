@@ -28,8 +28,8 @@ placement_on-requires c = record {
 }
 
 -- the first placement is of the other axis
-secondary-is : (c : After-placement_on) → secondary_of c.args.columns c.args.items.now c.args.i ≡ c.placement_on.result
-secondary-is c =
+secondary_is : (c : After-placement_on) → secondary_of c.args.columns c.args.items.now c.args.i ≡ c.placement_on.result
+secondary_is c =
     let g = c.args in
     sym (c.placement_on.ensures ∙ ap (λ (x : Axis). on x (item_of (item_at g.items.now g.i))) (other_axis g.columns))
 
@@ -39,7 +39,7 @@ returns-in_default c =
     let g = a.args in
     λ room old b k e.
     stays g.i g.cursor k e _
-    (pass_fixed (setting_for g.columns g.dense room) (place_of g.once) g.i b (primary_of g.columns g.items.now g.i) (secondary_of g.columns g.items.now g.i) c.in_default.field-0 (secondary-is a ∙ c.in_default.is))
+    (pass_fixed (setting_for g.columns g.dense room) (place_of g.once) g.i b (primary_of g.columns g.items.now g.i) (secondary_of g.columns g.items.now g.i) c.in_default.field-0 (secondary_is a ∙ c.in_default.is))
 
 pub placement_on-placement-requires : goal.placement_on-placement-requires
 placement_on-placement-requires c = let s = c.before.before in record {
@@ -56,17 +56,17 @@ module _ (c : After-placement_on-placement) where
   m = c.in-Spanned.m
 
   span_is : secondary_of begun.args.columns begun.args.items.now begun.args.i ≡ Spanned m
-  span_is = secondary-is c.before.before ∙ c.in-Spanned.is
+  span_is = secondary_is c.before.before ∙ c.in-Spanned.is
 
   span_good : Good (Spanned m)
   span_good = subst Good span_is (good_placement begun.args.items.now begun.args.i (other (axis_of begun.args.columns)) (good begun))
 
-  primary-good : (P : Placement) → c.placement_on-placement.result ≡ P → Good P
-  primary-good P e = subst Good (sym c.placement_on-placement.ensures ∙ e) (good_placement begun.args.items.now begun.args.i (axis_of begun.args.columns) (good begun))
+  primary_good : (P : Placement) → c.placement_on-placement.result ≡ P → Good P
+  primary_good P e = subst Good (sym c.placement_on-placement.ensures ∙ e) (good_placement begun.args.items.now begun.args.i (axis_of begun.args.columns) (good begun))
 
 -- both are spans
-pair-span : (c : After-span_of-n) → c.placement_on-placement.result ≡ Spanned c.span_of-n.result
-pair-span c =
+pair_span : (c : After-span_of-n) → c.placement_on-placement.result ≡ Spanned c.span_of-n.result
+pair_span c =
     let g = c.in_default-placement in
     g.is ∙ ap Spanned (sym (c.span_of-n.ensures ∙ ap span_of g.is))
 
@@ -76,7 +76,7 @@ place_on_pair-requires c =
     let d = o.before.before in
     let k = (begun d).requires in
     record {
-      good = (primary-good d (Spanned o.span_of-n.result) (pair-span o), span_good d);
+      good = (primary_good d (Spanned o.span_of-n.result) (pair_span o), span_good d);
       i_in_bounds = k.i_in_bounds;
       stands = k.stands;
       cursor_in = k.cursor_in;
@@ -89,7 +89,7 @@ returns-in_default-placement c =
     let d = o.before.before in
     let g = (begun d).args in
     λ room old b k e.
-    rw (by_pair (setting_for g.columns g.dense room) (place_of g.once) g.i b (primary_of g.columns g.items.now g.i) (secondary_of g.columns g.items.now g.i) o.span_of-n.result (m d) (sym d.placement_on-placement.ensures ∙ pair-span o) (span_is d))
+    rw (by_pair (setting_for g.columns g.dense room) (place_of g.once) g.i b (primary_of g.columns g.items.now g.i) (secondary_of g.columns g.items.now g.i) o.span_of-n.result (m d) (sym d.placement_on-placement.ensures ∙ pair_span o) (span_is d))
     (f.place_on_pair.ensures room old b k e)
 
 pub place_on_line-requires : goal.place_on_line-requires
@@ -98,7 +98,7 @@ place_on_line-requires c =
     let d = p.before in
     let k = (begun d).requires in
     record {
-      good = (primary-good d (Fixed p.in-Fixed.p) p.in-Fixed.is, span_good d);
+      good = (primary_good d (Fixed p.in-Fixed.p) p.in-Fixed.is, span_good d);
       i_in_bounds = k.i_in_bounds;
       stands = k.stands;
       cursor_in = k.cursor_in;

@@ -8,14 +8,13 @@ use Rattle.placing_step4.proofs.place_on_line.Goals as goal
 
 pub settle_line-s-requires : goal.settle_line-s-requires
 settle_line-s-requires c =
-    let s = c in
-    let k = s.requires.stands.1.1.1 in
+    let k = c.requires.stands.1.1.1 in
     record {
       holds = primary_holds k;
       sound = sound_secondary k;
-      start_lt_end = in_order s.requires.good.0;
-      le_span = span_in s.requires.good.1;
-      cursor_in = s.requires.cursor_in;
+      start_lt_end = in_order c.requires.good.0;
+      le_span = span_in c.requires.good.1;
+      cursor_in = c.requires.cursor_in;
     }
 
 pub lay-laid-requires : goal.lay-laid-requires

@@ -16,15 +16,14 @@ use Rattle.placing_step4.proofs.place_on_pair.Goals as goal
 
 pub settle_pair-settled-requires : goal.settle_pair-settled-requires
 settle_pair-settled-requires c =
-    let s = c in
-    let k = s.requires.stands.1.1.1 in
+    let k = c.requires.stands.1.1.1 in
     record {
       holds = secondary_holds k;
       sound = sound_primary k;
       inside = pair_inside k;
-      le_n = span_in s.requires.good.0;
-      le_m = span_in s.requires.good.1;
-      cursor_in = s.requires.cursor_in;
+      le_n = span_in c.requires.good.0;
+      le_m = span_in c.requires.good.1;
+      cursor_in = c.requires.cursor_in;
     }
 
 -- the place that is settled
@@ -61,11 +60,11 @@ module _ (c : After-spanned-s) where
   abbrev settled : After-settle_pair-settled
   settled = c.before.before.before.before.before
 
-  primary-is : c.spanned-p.result ≡ from (place settled).primary (begun settled).args.n
-  primary-is = c.spanned-p.ensures ∙ ap (λ (y : ℤ). from y (begun settled).args.n) (to_z-of_z (fit16 (place settled).primary c.struct_told-1.given.0.1))
+  primary_is : c.spanned-p.result ≡ from (place settled).primary (begun settled).args.n
+  primary_is = c.spanned-p.ensures ∙ ap (λ (y : ℤ). from y (begun settled).args.n) (to_z-of_z (fit16 (place settled).primary c.struct_told-1.given.0.1))
 
-  secondary-is : c.spanned-s.result ≡ from (place settled).secondary (begun settled).args.m
-  secondary-is = c.spanned-s.ensures ∙ ap (λ (y : ℤ). from y (begun settled).args.m) (to_z-of_z (fit16 (place settled).secondary c.struct_told-2-1.given.1.0.1))
+  secondary_is : c.spanned-s.result ≡ from (place settled).secondary (begun settled).args.m
+  secondary_is = c.spanned-s.ensures ∙ ap (λ (y : ℤ). from y (begun settled).args.m) (to_z-of_z (fit16 (place settled).secondary c.struct_told-2-1.given.1.0.1))
 
 pub lay-laid-requires : goal.lay-laid-requires
 lay-laid-requires c =
@@ -90,4 +89,4 @@ returns c =
     let a = s.args in
     λ room old b k e.
     rw c.turned.ensures
-    (pair_laid k a.dense a.cursor e a.once a.i t.spanned-p.result t.spanned-s.result a.n a.m d.settle_pair-settled.result.flags s.requires.good.0 s.requires.good.1 (place d) d.settle_pair-settled.ensures.0 d.settle_pair-settled.ensures.1 (primary-is t) (secondary-is t) n.next_cursor.result n.next_cursor.ensures l.lay-laid.result _ _ _ l.lay-laid.ensures)
+    (pair_laid k a.dense a.cursor e a.once a.i t.spanned-p.result t.spanned-s.result a.n a.m d.settle_pair-settled.result.flags s.requires.good.0 s.requires.good.1 (place d) d.settle_pair-settled.ensures.0 d.settle_pair-settled.ensures.1 (primary_is t) (secondary_is t) n.next_cursor.result n.next_cursor.ensures l.lay-laid.result _ _ _ l.lay-laid.ensures)

@@ -58,15 +58,15 @@ module _ (c : After-struct_told-2-1) where
       let s : SFits w16 (to_z w16 (of_z w16 (first c)) +ℤ to_z w16 (begun c).args.n) = overflow_add-start c in
       omega (signed, neg (pos (counts c).negative))
 
-  test-is : lt_z (to_z w16 (of_z w16 (last c))) (to_z w16 (of_z w16 (to_z w16 (of_z w16 (first c)) +ℤ to_z w16 (begun c).args.n))) ≡ overwide (begun c).args.n (counts c)
+  test_is : lt_z (to_z w16 (of_z w16 (last c))) (to_z w16 (of_z w16 (to_z w16 (of_z w16 (first c)) +ℤ to_z w16 (begun c).args.n))) ≡ overwide (begun c).args.n (counts c)
   unfolding overwide
-  test-is = λ j. lt_z (end_is c j) (sum_is j)
+  test_is = λ j. lt_z (end_is c j) (sum_is j)
 
 pub returns-then-end-start : goal.returns-then-end-start
 returns-then-end-start c =
     let d = c.before.before in
     let s = begun d in
-    let wide : overwide s.args.n (counts d) ≡ true = sym (test-is d) ∙ c.if-end-start.true in
+    let wide : overwide s.args.n (counts d) ≡ true = sym (test_is d) ∙ c.if-end-start.true in
     let u = to_z-of_z (fit16 c.untested_line-line.result c.untested_line-line.type_inv) ∙ c.untested_line-line.ensures ∙ ap (untested_line s.args.cursor) (start_is d) in
     rw wide ((λ j. at (start_is d j) (u j)), refl)
 
@@ -91,7 +91,7 @@ pub returns : goal.returns
 returns c =
     let d = c.before.before in
     let s = begun d in
-    let narrow : overwide s.args.n (counts d) ≡ false = sym (test-is d) ∙ c.if-end-start.false in
+    let narrow : overwide s.args.n (counts d) ≡ false = sym (test_is d) ∙ c.if-end-start.false in
     let rs = recs s.args.matrix.secondary_used s.args.secondary.now in
     rw narrow (
       c.first_free_pair-found.ensures

@@ -17,33 +17,33 @@ module _ (c : After-struct_told-1) where
   abbrev line : ℤ
   line = c.args.self.0
 
-  f-line : SFits w16 line
-  f-line = fit16 line c.struct_told-1.given.0.1
+  f_line : SFits w16 line
+  f_line = fit16 line c.struct_told-1.given.0.1
 
 pub overflow_sub-line : goal.overflow_sub-line
-overflow_sub-line c = let b = c.before in omega (signed, overflow_cast-line b, f-line b, rng (f-line b))
+overflow_sub-line c = let b = c.before in omega (signed, overflow_cast-line b, f_line b, rng (f_line b))
 
 pub returns-then-line-gt0 : goal.returns-then-line-gt0
 unfolding origin_zero_of
 returns-then-line-gt0 c =
     let t = c.before in
     let b = t.before in
-    rw (g_lt_true (pos 0) (line b) (omega (signed, overflow_cast-line b, f-line b)))
-    (rw (to_z-of_z (overflow_sub-line t), to_z-of_z (overflow_cast-line b), to_z-of_z (f-line b)) at c.clamped.ensures)
+    rw (g_lt_true (pos 0) (line b) (omega (signed, overflow_cast-line b, f_line b)))
+    (rw (to_z-of_z (overflow_sub-line t), to_z-of_z (overflow_cast-line b), to_z-of_z (f_line b)) at c.clamped.ensures)
 
 pub overflow_cast-explicit : goal.overflow_cast-explicit
 overflow_cast-explicit c = search rules
 
 pub overflow_add-line : goal.overflow_add-line
-overflow_add-line c = let b = c.before in omega (signed, overflow_cast-line b, overflow_cast-explicit c, f-line b, rng (f-line b))
+overflow_add-line c = let b = c.before in omega (signed, overflow_cast-line b, overflow_cast-explicit c, f_line b, rng (f_line b))
 
 pub overflow_add-line-2 : goal.overflow_add-line-2
-overflow_add-line-2 c = let b = c.before in omega (signed, overflow_cast-line b, overflow_cast-explicit c, overflow_add-line c, f-line b, rng (f-line b))
+overflow_add-line-2 c = let b = c.before in omega (signed, overflow_cast-line b, overflow_cast-explicit c, overflow_add-line c, f_line b, rng (f_line b))
 
 pub returns : goal.returns
 unfolding origin_zero_of
 returns c =
     let t = c.before in
     let b = t.before in
-    rw (g_lt_false (pos 0) (line b) (omega (signed, overflow_cast-line b, f-line b)))
-    (rw (to_z-of_z (overflow_add-line-2 t), to_z-of_z (overflow_add-line t), to_z-of_z (overflow_cast-line b), to_z-of_z (overflow_cast-explicit t), to_z-of_z (f-line b)) at c.clamped-2.ensures)
+    rw (g_lt_false (pos 0) (line b) (omega (signed, overflow_cast-line b, f_line b)))
+    (rw (to_z-of_z (overflow_add-line-2 t), to_z-of_z (overflow_add-line t), to_z-of_z (overflow_cast-line b), to_z-of_z (overflow_cast-explicit t), to_z-of_z (f_line b)) at c.clamped-2.ensures)

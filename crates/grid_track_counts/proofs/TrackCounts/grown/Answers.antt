@@ -14,20 +14,20 @@ module _ (c : After-struct_told-2-1) where
   abbrev l : Lines
   l = c.args.lines
 
-  f-start : SFits w16 l.start
-  f-start = omega signed
+  f_start : SFits w16 l.start
+  f_start = omega signed
 
-  f-end : SFits w16 l.end
-  f-end = omega signed
+  f_end : SFits w16 l.end
+  f_end = omega signed
 
 pub implied_negative_implicit_tracks-before-requires : goal.implied_negative_implicit_tracks-before-requires
-implied_negative_implicit_tracks-before-requires c = rw (to_z-of_z (f-start c)) (record { fits = f-start c; low = omega signed; high = omega signed })
+implied_negative_implicit_tracks-before-requires c = rw (to_z-of_z (f_start c)) (record { fits = f_start c; low = omega signed; high = omega signed })
 
 pub implied_positive_implicit_tracks-behind-requires : goal.implied_positive_implicit_tracks-behind-requires
 implied_positive_implicit_tracks-behind-requires c =
     let b = c.before in
     record {
-      in_grid = rw (to_z-of_z (f-end b)) (record { fits = f-end b; low = omega signed; high = omega signed });
+      in_grid = rw (to_z-of_z (f_end b)) (record { fits = f_end b; low = omega signed; high = omega signed });
       explicit_bound = omega arith;
     }
 
@@ -36,6 +36,6 @@ unfolding grown
 returns c =
     let p = c.before.before in
     let b = p.before.before in
-    let n = rw (to_z-of_z (f-start b)) at p.implied_negative_implicit_tracks-before.ensures in
-    let e = rw (to_z-of_z (f-end b)) at p.implied_positive_implicit_tracks-behind.ensures in
+    let n = rw (to_z-of_z (f_start b)) at p.implied_negative_implicit_tracks-before.ensures in
+    let e = rw (to_z-of_z (f_end b)) at p.implied_positive_implicit_tracks-behind.ensures in
     rw (c.larger.ensures, c.larger-2.ensures, n, e)

@@ -18,4 +18,4 @@ returns-in-Line c =
     (ap of_css (sym a.in-Line.is ∙ told a.before))
 
 pub returns-in-Refused : goal.returns-in-Refused
-returns-in-Refused c = let a = c in ap of_css (sym a.in-Refused.is ∙ told a.before)
+returns-in-Refused c = ap of_css (sym c.in-Refused.is ∙ told c.before)

@@ -11,10 +11,10 @@ told : (c : After-track_index-answer) → c.track_index-answer.result ≡ index_
 told c = rw (to_z-of_z c.ranges.line) at c.track_index-answer.ensures
 
 pub returns-in-At : goal.returns-in-At
-returns-in-At c = let a = c in ap of_index (sym a.in-At.is ∙ told a.before)
+returns-in-At c = ap of_index (sym c.in-At.is ∙ told c.before)
 
 pub returns-in-Absent : goal.returns-in-Absent
 returns-in-Absent c = ap of_index (sym c.in-Absent.is ∙ told c.before)
 
 pub returns-in-Refused : goal.returns-in-Refused
-returns-in-Refused c = let a = c in ap of_index (sym a.in-Refused.is ∙ told a.before)
+returns-in-Refused c = ap of_index (sym c.in-Refused.is ∙ told c.before)

@@ -13,9 +13,9 @@ returns-then-i-j c t on h = let s = c.before in rw (to_z-of_z s.ranges.a, to_z-o
 pub returns-then-left_of : goal.returns-then-left_of
 returns-then-left_of c t on h = no_both h refl
 
-not-true : (b : Bool) → not b ≡ true → b ≡ false
-not-true true h = no_both h refl
-not-true false h = refl
+not_true : (b : Bool) → not b ≡ true → b ≡ false
+not_true true h = no_both h refl
+not_true false h = refl
 
 pub returns : goal.returns
 returns c t on h =
@@ -27,4 +27,4 @@ returns c t on h =
     let a = s.args in
     pieced a.list.now a.i a.j t a.a a.b a.s (omega arith) (omega arith) on _
     (one_piece _ _ _ _ _ _ _ (record { sfits = q.c-1.given }) (record { sfits = z.v-1.given }) (record { sfits = z.d-1.given }) (record { sfits = z.z-1.given }) f.a f.b f.s _ _ e.start_of-start.type_inv e.end_of-end.type_inv e.start_of-start.ensures e.end_of-end.ensures t
-    (sym c.if-left_of.false ∙ c.left_of.ensures) (sym (not-true c.right_of.result h) ∙ c.right_of.ensures))
+    (sym c.if-left_of.false ∙ c.left_of.ensures) (sym (not_true c.right_of.result h) ∙ c.right_of.ensures))

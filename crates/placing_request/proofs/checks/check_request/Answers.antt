@@ -109,7 +109,7 @@ five c =
     (bad_check (bad_from 0 (halves s.args.items.now)))
 
 pub returns-in-At : goal.returns-in-At
-returns-in-At c = let b = c in sym (five b.before ∙ ap bad_of b.in-At.is)
+returns-in-At c = sym (five c.before ∙ ap bad_of c.in-At.is)
 
 pub returns-in-AllGood : goal.returns-in-AllGood
 returns-in-AllGood c = sym (five c.before ∙ ap bad_of c.in-AllGood.is)

@@ -17,16 +17,16 @@ module _ (c : After-walk_items-arg-3-1) where
   abbrev begun : Start
   begun = c.before.before.before.before.before.before.before.before.before
 
-  cleared-p : c.clear.new.list ≡ replicate (length begun.args.primary.now) (pos 0)
-  cleared-p = c.clear.ensures
+  cleared_p : c.clear.new.list ≡ replicate (length begun.args.primary.now) (pos 0)
+  cleared_p = c.clear.ensures
 
-  cleared-s : c.clear-2.new.list ≡ replicate (length begun.args.secondary.now) (pos 0)
-  cleared-s = c.clear-2.ensures
+  cleared_s : c.clear-2.new.list ≡ replicate (length begun.args.secondary.now) (pos 0)
+  cleared_s = c.clear-2.ensures
 
   ready : Ready begun.args.columns (laid (axis_of begun.args.columns) (length begun.args.primary.now) (length begun.args.secondary.now)) begun.args.answers.now (empty_board begun.args.columns begun.args.primary_counts begun.args.secondary_counts) (record { primary = begun.args.primary_counts; secondary = begun.args.secondary_counts; primary_used = 0; secondary_used = 0 }) begun.args.answers.now c.clear.new.list c.clear-2.new.list
   ready =
       let s = begun in
-      ready_empty s.args.columns s.args.primary_counts s.args.secondary_counts s.requires.sound.0 s.requires.sound.1 s.args.answers.now c.clear.new.list c.clear-2.new.list (length s.args.primary.now) (length s.args.secondary.now) cleared-p cleared-s
+      ready_empty s.args.columns s.args.primary_counts s.args.secondary_counts s.requires.sound.0 s.requires.sound.1 s.args.answers.now c.clear.new.list c.clear-2.new.list (length s.args.primary.now) (length s.args.secondary.now) cleared_p cleared_s
 
 pub walk_items-stepped-requires : goal.walk_items-stepped-requires
 walk_items-stepped-requires c =
@@ -35,7 +35,7 @@ walk_items-stepped-requires c =
       items = s.requires.items;
       len_bound = s.requires.len_bound;
       in_bounds = omega (arith, s.requires.answers_len);
-      stands_fresh = (laid (axis_of s.args.columns) (length s.args.primary.now) (length s.args.secondary.now), (s.args.answers.now, (empty_board s.args.columns s.args.primary_counts s.args.secondary_counts, (ready c, no_ends_empty s.args.columns s.args.primary_counts s.args.secondary_counts s.requires.sound.0 s.requires.sound.1 s.args.answers.now c.clear.new.list c.clear-2.new.list (length s.args.primary.now) (length s.args.secondary.now) (cleared-p c) (cleared-s c)))));
+      stands_fresh = (laid (axis_of s.args.columns) (length s.args.primary.now) (length s.args.secondary.now), (s.args.answers.now, (empty_board s.args.columns s.args.primary_counts s.args.secondary_counts, (ready c, no_ends_empty s.args.columns s.args.primary_counts s.args.secondary_counts s.requires.sound.0 s.requires.sound.1 s.args.answers.now c.clear.new.list c.clear-2.new.list (length s.args.primary.now) (length s.args.secondary.now) (cleared_p c) (cleared_s c)))));
     }
 
 -- the walk from there
@@ -55,7 +55,7 @@ module _ (d : After-walk_items-stepped) where
   walked : AfterStep s₀.args.columns (laid (axis_of s₀.args.columns) pl sl) s₀.args.answers.now (run_for s₀.args.columns s₀.args.dense s₀.args.items.now s₀.args.primary_counts s₀.args.secondary_counts pl sl) d.walk_items-stepped.result d.walk_items-stepped.new.answers d.walk_items-stepped.new.primary d.walk_items-stepped.new.secondary
   walked =
       d.walk_items-stepped.ensures (laid (axis_of s₀.args.columns) pl sl) s₀.args.answers.now (empty_board s₀.args.columns s₀.args.primary_counts s₀.args.secondary_counts) (ready arg)
-      (no_ends_empty s₀.args.columns s₀.args.primary_counts s₀.args.secondary_counts s₀.requires.sound.0 s₀.requires.sound.1 s₀.args.answers.now arg.clear.new.list arg.clear-2.new.list pl sl (cleared-p arg) (cleared-s arg))
+      (no_ends_empty s₀.args.columns s₀.args.primary_counts s₀.args.secondary_counts s₀.requires.sound.0 s₀.requires.sound.1 s₀.args.answers.now arg.clear.new.list arg.clear-2.new.list pl sl (cleared_p arg) (cleared_s arg))
 
 pub returns-in-Done : goal.returns-in-Done
 returns-in-Done c =

@@ -90,9 +90,9 @@ module _ (c : In-Done-second) where
   abbrev s₂ : Start
   s₂ = s₁ k₁
 
-  second-done : (room : Both ℕ) (old : List ℤ) (b : Board) (q : Ready s₂.args.columns room old b s₂.args.matrix s₂.args.answers.now s₂.args.primary.now s₂.args.secondary.now) → NoEnds s₂.args.columns b
+  second_done : (room : Both ℕ) (old : List ℤ) (b : Board) (q : Ready s₂.args.columns room old b s₂.args.matrix s₂.args.answers.now s₂.args.primary.now s₂.args.secondary.now) → NoEnds s₂.args.columns b
       → Went s₂.args.columns room old (each (setting_for s₂.args.columns s₂.args.dense room) (step2 (setting_for s₂.args.columns s₂.args.dense room)) (queued s₂.args.items.now) (first_done k₁ room old b q).board) f₂.in-Done-second.found d₂.place_definite_secondary_axis_items-second.new.answers d₂.place_definite_secondary_axis_items-second.new.primary d₂.place_definite_secondary_axis_items-second.new.secondary
-  second-done room old b q ne =
+  second_done room old b q ne =
       let v = first_done k₁ room old b q in
       step_done _ (d₂.place_definite_secondary_axis_items-second.ensures room old v.board v.ready (no_ends (setting_for s₂.args.columns s₂.args.dense room) (axis_of s₂.args.columns) (queued s₂.args.items.now) b v.board ne v.is)) f₂.in-Done-second.is
 
@@ -101,7 +101,7 @@ place_remaining_items-requires c =
     let k = c.before.before.before in
     let s = s₂ k in
     let st = s.requires.stands_fresh in
-    let v = second-done k st.0 st.1.0 st.1.1.0 st.1.1.1.0 st.1.1.1.1 in
+    let v = second_done k st.0 st.1.0 st.1.1.0 st.1.1.1.0 st.1.1.1.1 in
     record {
       items = s.requires.items;
       len_bound = s.requires.len_bound;
@@ -110,13 +110,13 @@ place_remaining_items-requires c =
     }
 
 pub shape_of-answers : goal.shape_of-answers
-shape_of-answers c = let k = c.before.before.before.before.before.before.before in let st = (s₂ k).requires.stands_fresh in omega (arith, answers_length (second-done k st.0 st.1.0 st.1.1.0 st.1.1.1.0 st.1.1.1.1).ready, answers_length st.1.1.1.0)
+shape_of-answers c = let k = c.before.before.before.before.before.before.before in let st = (s₂ k).requires.stands_fresh in omega (arith, answers_length (second_done k st.0 st.1.0 st.1.1.0 st.1.1.1.0 st.1.1.1.1).ready, answers_length st.1.1.1.0)
 
 pub shape_of-primary : goal.shape_of-primary
-shape_of-primary c = let k = c.before.before.before.before.before.before.before in let st = (s₂ k).requires.stands_fresh in omega (arith, primary_length (second-done k st.0 st.1.0 st.1.1.0 st.1.1.1.0 st.1.1.1.1).ready, primary_length st.1.1.1.0)
+shape_of-primary c = let k = c.before.before.before.before.before.before.before in let st = (s₂ k).requires.stands_fresh in omega (arith, primary_length (second_done k st.0 st.1.0 st.1.1.0 st.1.1.1.0 st.1.1.1.1).ready, primary_length st.1.1.1.0)
 
 pub shape_of-secondary : goal.shape_of-secondary
-shape_of-secondary c = let k = c.before.before.before.before.before.before.before in let st = (s₂ k).requires.stands_fresh in omega (arith, secondary_length (second-done k st.0 st.1.0 st.1.1.0 st.1.1.1.0 st.1.1.1.1).ready, secondary_length st.1.1.1.0)
+shape_of-secondary c = let k = c.before.before.before.before.before.before.before in let st = (s₂ k).requires.stands_fresh in omega (arith, secondary_length (second_done k st.0 st.1.0 st.1.1.0 st.1.1.1.0 st.1.1.1.1).ready, secondary_length st.1.1.1.0)
 
 pub returns : goal.returns
 returns c =
@@ -127,7 +127,7 @@ returns c =
     λ room old b q ne.
     let w = setting_for s.args.columns s.args.dense room in
     let v = first_done (k₁ k) room old b q in
-    let u = second-done k room old b q ne in
+    let u = second_done k room old b q ne in
     same_run s.args.columns room old (last4 w qs (begin4 w (λ g. g) u.board)) (walk w (λ g. g) qs b) d.place_remaining_items.result _ _ _
     (d.place_remaining_items.ensures room old u.board u.ready)
     (sym (walk_last w (λ g. g) qs b v.board u.board v.is u.is))
