@@ -1,32 +1,25 @@
--- Judging a file: each way to refusal 12, what a good file's length is, and how a good file comes to the door's outcome.
+-- Judging a file: what passes the tests, and what a refused file, and a good one, tells.
+use Rattle.std.specs.Prelude.{Result, Ok, Err}
 use mathlib.Core.Path.{◌≡◌, refl, ap}
 use mathlib.Core.Bool.{Bool, true, false, ◌&&◌}
 use mathlib.Core.List.{List}
-use Prim.Native.Nat.{ℕ, ◌+◌, ◌*◌, ◌≤◌, ◌<◌}
+use Prim.Native.Nat.{ℕ, ◌+◌, ◌*◌, ◌≤◌}
 use native.Mathlib.Omega.{arith}
-use borrow.Author.Tests.{eqb-true, lt-leb, le-leb, eq-eqb, ne_eqb}
+use borrow.Author.Tests.{eqb-true, le-leb, eq-eqb}
 use lib.Dec.{eqb, leb}
 use lib.ListN.{length, get_or}
 use Rattle.theory_intervals.proofs.Grid.{and_l, and_r, and_i}
 use Rattle.board_bytes.specs.declared.header.Head.{Head}
-use Rattle.board_bytes.specs.declared.header.FileHeader.TheVariants as H
+use Rattle.refusals.specs.declared.Refusal.{Refusal}
+use Rattle.refusals.specs.declared.Refusal.TheVariants.{NotAFile}
 use Rattle.board_bytes.specs.File.{word_at, length_told, head_of, good_file, header_of}
 
 -- ---- the header
 
-and_no : (x y : Bool) → y ≡ false → x && y ≡ false
-and_no true y e = e
-and_no false y e = refl
+abbrev answer : Refusal → Result Head Refusal
+answer r = Err r
 
 module _ (bs : List ℕ) where
-  bad : good_file bs ≡ false → H.Refused ≡ header_of bs
-  unfolding header_of
-  bad e = rw e refl
-
-  pub short : length bs < 20 → H.Refused ≡ header_of bs
-  unfolding good_file
-  short h = bad (rw (lt-leb 20 (length bs) h) refl)
-
   -- the four tests, and those behind each
   abbrev long : Bool
   long = leb 20 (length bs)
@@ -40,48 +33,25 @@ module _ (bs : List ℕ) where
   abbrev version : Bool
   version = eqb (get_or bs 4 0) 1
 
-  pub other_length : (length bs ≡ 4 + length_told bs → ⊥) → H.Refused ≡ header_of bs
-  unfolding good_file
-  other_length h =
-      let e : whole && (counted && version) ≡ false = rw (ne_eqb (length bs) (4 + length_told bs) h) refl in
-      bad (and_no long (whole && (counted && version)) e)
-
-  pub other_count : (length_told bs ≡ 16 + 12 * word_at bs 18 → ⊥) → H.Refused ≡ header_of bs
-  unfolding good_file
-  other_count h =
-      let e : counted && version ≡ false = rw (ne_eqb (length_told bs) (16 + 12 * word_at bs 18) h) refl in
-      bad (and_no long (whole && (counted && version)) (and_no whole (counted && version) e))
-
-  pub other_version : (get_or bs 4 0 ≡ 1 → ⊥) → H.Refused ≡ header_of bs
-  unfolding good_file
-  other_version h =
-      let e = ne_eqb (get_or bs 4 0) 1 h in
-      bad (and_no long (whole && (counted && version)) (and_no whole (counted && version) (and_no counted version e)))
-
   pub agrees : 20 ≤ length bs → length bs ≡ 4 + length_told bs → length_told bs ≡ 16 + 12 * word_at bs 18 → get_or bs 4 0 ≡ 1 → good_file bs ≡ true
   unfolding good_file
   agrees a b c d = and_i (le-leb 20 (length bs) a) (and_i (eq-eqb _ _ b) (and_i (eq-eqb _ _ c) (eq-eqb _ _ d)))
 
-  pub accepted : (h : Head) → good_file bs ≡ true → h ≡ head_of bs → H.Good h ≡ header_of bs
+  pub header_refused : (r : Refusal) → Err r ≡ header_of bs → (good_file bs ≡ false) × (r ≡ NotAFile)
   unfolding header_of
-  accepted h g e = rw g (ap H.Good e)
-
-  -- and back
-  pub header_refused : H.Refused ≡ header_of bs → good_file bs ≡ false
-  unfolding header_of
-  header_refused e = by (good_file bs) refl
+  header_refused r e = by (good_file bs) refl
     where
-      by : (b : Bool) → good_file bs ≡ b → b ≡ false
-      by false f = refl
-      by true f = let y : H.Refused ≡ H.Good (head_of bs) = rw f at e in let z : ◌≡◌ {A = ℕ} 0 1 = cc in absurd (omega arith)
+      by : (b : Bool) → good_file bs ≡ b → (b ≡ false) × (r ≡ NotAFile)
+      by false f = let y : answer r ≡ answer NotAFile = rw f at e in (refl, cc)
+      by true f = let y : answer r ≡ Ok (head_of bs) = rw f at e in let z : ◌≡◌ {A = ℕ} 0 1 = cc in absurd (omega arith)
 
-  pub header_good : (h : Head) → H.Good h ≡ header_of bs → (good_file bs ≡ true) × (h ≡ head_of bs)
+  pub header_good : (h : Head) → Ok h ≡ header_of bs → (good_file bs ≡ true) × (h ≡ head_of bs)
   unfolding header_of
   header_good h e = by (good_file bs) refl
     where
       by : (b : Bool) → good_file bs ≡ b → (b ≡ true) × (h ≡ head_of bs)
-      by true f = let y : H.Good h ≡ H.Good (head_of bs) = rw f at e in (refl, cc)
-      by false f = let y : H.Good h ≡ H.Refused = rw f at e in let z : ◌≡◌ {A = ℕ} 0 1 = cc in absurd (omega arith)
+      by true f = let y : ◌≡◌ {A = Result Head Refusal} (Ok h) (Ok (head_of bs)) = rw f at e in (refl, cc)
+      by false f = let y : Ok h ≡ answer NotAFile = rw f at e in let z : ◌≡◌ {A = ℕ} 0 1 = cc in absurd (omega arith)
 
   pub good_length : good_file bs ≡ true → length bs ≡ 20 + 12 * word_at bs 18
   unfolding good_file

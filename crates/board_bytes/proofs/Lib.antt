@@ -1,4 +1,3 @@
-pub mod Signs
 pub mod Words
 pub mod Judged
 pub mod Promises

@@ -1,8 +1,8 @@
 -- "Refusal 12" is given exactly for what is no file of the format: every file of the format is accepted, and reads as the request that it was made of.
+use Rattle.std.specs.Prelude.{Some}
 use mathlib.Core.Path.{◌≡◌, refl, sym, ap, ◌∙◌}
 use mathlib.Core.Bool.{Bool, true, false}
 use mathlib.Core.List.{List, [], ◌∷◌, ◌++◌}
-use mathlib.Core.Option.{some}
 use Prim.Native.Nat.{ℕ, zero, suc, ◌+◌, ◌-◌, ◌*◌, ◌/◌, ◌%◌, ◌≤◌, ◌<◌}
 use native.Mathlib.Omega.{arith}
 use borrow.Author.Tests.{ltb-false, lt-ltb, le-ltb}
@@ -116,9 +116,9 @@ module _ (n : ℕ) (q : Contents) (h : Holds n q) where
       ap (numbers bs 20) e ∙ numbers_past head (put_numbers q.items) (length q.items) ∙ numbers_back q.items h.numbers
 
   -- and it reads as what it was made of
-  pub round_trip : read_of bs ≡ some q
+  pub round_trip : read_of bs ≡ Some q
   unfolding read_of
-  round_trip = rw accepted (λ i. some (record { flow = flow_back i; columns = columns_back i; rows = rows_back i; items = items_back i }))
+  round_trip = rw accepted (λ i. Some (record { flow = flow_back i; columns = columns_back i; rows = rows_back i; items = items_back i }))
 
 -- ---- "Refusal 12" is given for everything else: what is accepted is the file of what it reads as
 

@@ -1,5 +1,5 @@
 -- The numbers of a file: how many they are, one more at their end, and those that a byte before moves.
-use mathlib.Core.Path.{◌≡◌, refl, sym, ap, ◌∙◌}
+use mathlib.Core.Path.{◌≡◌, refl, ap, ◌∙◌}
 use mathlib.Core.List.{List, [], ◌∷◌, ◌++◌}
 use Prim.Native.Nat.{ℕ, zero, suc, ◌+◌, ◌*◌, ◌<◌}
 use native.Mathlib.Omega.{arith}
@@ -39,7 +39,3 @@ numbers_behind x bs i (suc n) = ap (λ (t : List ℤ). signed_of (word_at bs i) 
 pub numbers_none : (bs : List ℕ) (i : ℕ) (d : List ℤ) → d ≡ numbers bs i 0 ++ drop 0 d
 unfolding numbers
 numbers_none bs i d = refl
-
--- the part of the buffer that holds n numbers is n long
-pub part_length : (bs : List ℕ) (is d : List ℤ) (i n : ℕ) → is ≡ numbers bs i n ++ d → n ≡ length (take n is)
-part_length bs is d i n e = sym (ap (λ (l : List ℤ). length (take n l)) e ∙ ap length (take_numbers bs d i n) ∙ length_numbers bs i n)

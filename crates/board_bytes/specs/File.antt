@@ -1,13 +1,12 @@
 -- The file. "Length first: 4 bytes, big-endian, of all that follows; one version byte, 1; flow byte; six 16-bit counts (columns first); 16-bit item count;
 -- items, 12 bytes each, all big-endian. Counts and item count are unsigned, item numbers signed. The length is 16 + 12n."
-use Rattle.std.specs.Prelude.{Bool, cond, ◌&&◌, List, [], ◌∷◌, ℕ, zero, suc, ◌+◌, ◌*◌, ◌/◌, ◌%◌, eqb, leb, ltb, ℤ, pos, ◌-ℤ◌, length, get_or}
-use Rattle.std.proofs.Math.Option.{Option, none, some}
+use Rattle.std.specs.Prelude.{Bool, cond, ◌&&◌, List, [], ◌∷◌, ℕ, zero, suc, ◌+◌, ◌*◌, ◌/◌, ◌%◌, eqb, leb, ltb, ℤ, pos, ◌-ℤ◌, length, get_or, Option, Some, None, Result, Ok, Err}
 use Rattle.std.specs.Int.{w16}
 use Rattle.std.proofs.Common.{of_z}
 use Rattle.grid_track_counts.specs.declared.TrackCounts.{TrackCounts}
+use Rattle.refusals.specs.declared.Refusal.{Refusal}
+use Rattle.refusals.specs.declared.Refusal.TheVariants.{NotAFile}
 use Rattle.board_bytes.specs.declared.header.Head.{Head}
-use Rattle.board_bytes.specs.declared.header.FileHeader.{FileHeader}
-use Rattle.board_bytes.specs.declared.header.FileHeader.TheVariants as H
 
 -- ---- from bytes
 
@@ -45,8 +44,8 @@ good_file bs =
     leb 20 (length bs)
     && (eqb (length bs) (4 + length_told bs) && (eqb (length_told bs) (16 + 12 * word_at bs 18) && eqb (get_or bs 4 0) 1))
 
-unfoldable pub header_of : List ℕ → FileHeader
-header_of bs = cond (good_file bs) (H.Good (head_of bs)) H.Refused
+unfoldable pub header_of : List ℕ → Result Head Refusal
+header_of bs = cond (good_file bs) (Ok (head_of bs)) (Err NotAFile)
 
 -- ---- the format, there and back
 
@@ -58,7 +57,7 @@ pub record Contents : Type 0 where
   pub items : List ℤ
 
 unfoldable pub read_of : List ℕ → Option Contents
-read_of bs = cond (good_file bs) (some (record { flow = get_or bs 5 0; columns = counts_at bs 6; rows = counts_at bs 12; items = items_in bs })) none
+read_of bs = cond (good_file bs) (Some (record { flow = get_or bs 5 0; columns = counts_at bs 6; rows = counts_at bs 12; items = items_in bs })) None
 
 -- a 16-bit number's two bytes before the rest
 unfoldable pub put : ℕ → List ℕ → List ℕ

@@ -4,6 +4,7 @@ ghost use Rattle.board_bytes.specs.File.{length_told, counts_at, header_of};
 
 use crate::bytes::word;
 use grid_track_counts::TrackCounts;
+use refusals::Refusal;
 
 #[derive(Clone, Copy)]
 pub struct Head {
@@ -13,62 +14,43 @@ pub struct Head {
     pub count: u16,
 }
 
-// The head of a file that agrees with itself, or that the bytes are none: refusal 12.
-#[derive(Clone, Copy)]
-pub enum FileHeader {
-    Good(Head),
-    Refused,
-}
-
-fn length_told(bytes: &[u8]) -> usize
+#[tactic(auto, unfolding(crate::specs::File::length_told, crate::specs::File::word_at))]
+fn length_told(bytes: &[u8]) -> u32
     requires { 4 ≤ length bytes.now }
-    ensures value { result ≡ length_told bytes.now }
-    ensures upper_bound { result < 4294967296 }
+    ensures { result ≡ length_told bytes.now }
 {
-    let high = word(bytes, 0);
-    let low = word(bytes, 2);
-    65536 * (high as usize) + low as usize
+    u32::from_be_bytes([bytes[0], bytes[1], bytes[2], bytes[3]])
 }
 
+#[tactic(auto, unfolding(crate::specs::File::counts_at))]
 fn counts(bytes: &[u8], i: usize) -> TrackCounts
     requires { i + 6 ≤ length bytes.now }
     ensures { result ≡ counts_at bytes.now i }
 {
-    let negative = word(bytes, i);
-    let explicit = word(bytes, i + 2);
-    let positive = word(bytes, i + 4);
     TrackCounts {
-        negative: negative,
-        explicit: explicit,
-        positive: positive,
+        negative: word(bytes, i),
+        explicit: word(bytes, i + 2),
+        positive: word(bytes, i + 4),
     }
 }
 
-// The item numbers are not looked at, only how many bytes they take.
-pub fn read_header(bytes: &[u8]) -> FileHeader
+// The head of a file that agrees with itself. The item numbers are not looked at, only how many bytes they take.
+#[tactic(auto, unfolding(crate::specs::File::header_of, crate::specs::File::good_file, crate::specs::File::head_of))]
+pub fn read_header(bytes: &[u8]) -> Result<Head, Refusal>
     ensures { result ≡ header_of bytes.now }
 {
     if bytes.len() < 20 {
-        return FileHeader::Refused;
+        return Err(Refusal::NotAFile);
     }
-    let told = length_told(bytes);
-    if bytes.len() != 4 + told {
-        return FileHeader::Refused;
-    }
+    let told = length_told(bytes) as usize;
     let count = word(bytes, 18);
-    if told != 16 + 12 * (count as usize) {
-        return FileHeader::Refused;
+    if bytes.len() != 4 + told || told != 16 + 12 * usize::from(count) || bytes[4] != 1 {
+        return Err(Refusal::NotAFile);
     }
-    if bytes[4] != 1 {
-        return FileHeader::Refused;
-    }
-    let flow = bytes[5];
-    let columns = counts(bytes, 6);
-    let rows = counts(bytes, 12);
-    FileHeader::Good(Head {
-        flow: flow,
-        columns: columns,
-        rows: rows,
-        count: count,
+    Ok(Head {
+        flow: bytes[5],
+        columns: counts(bytes, 6),
+        rows: counts(bytes, 12),
+        count,
     })
 }

@@ -10,9 +10,7 @@ pub fn read_items(bytes: &[u8], items: &mut [i16], n: usize)
     requires n_in_bounds_2 { n ≤ length items.old }
     ensures { items.new ≡ numbers bytes.now 20 n ++ drop n items.old }
 {
-    let mut i: usize = 0;
-    while i < n {
-        items[i] = signed(word(bytes, 20 + 2 * i));
-        i += 1;
+    for (i, item) in items[..n].iter_mut().enumerate() {
+        *item = signed(word(bytes, 20 + 2 * i));
     }
 }

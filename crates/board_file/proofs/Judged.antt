@@ -1,8 +1,8 @@
 -- Judging a file: each way to refusal 12, what a good file's length is, and how a good file comes to the door's outcome.
+use Rattle.std.specs.Prelude.{Some, Result, Err}
 use mathlib.Core.Path.{◌≡◌, refl, sym, ap, ◌∙◌}
 use mathlib.Core.Bool.{true, false}
 use mathlib.Core.List.{List, ◌++◌}
-use mathlib.Core.Option.{some}
 use Prim.Native.Nat.{ℕ, ◌*◌, ◌/◌, ◌%◌, ◌≤◌, ◌<◌}
 use native.Mathlib.Omega.{arith}
 use borrow.Author.Tests.{lt-ltb, le-ltb, lt-leb, le-leb, eq-eqb}
@@ -12,10 +12,11 @@ use lib.ListN.{length, get_or, take, drop}
 use Rattle.theory_walk.specs.Request.{Request, Refusal, Outcome, checked, outcome, answers_left, rows_left, columns_left, no}
 use Rattle.theory_walk.proofs.Promises.{checks_refuse, refusal_unchanged}
 use Rattle.placing_request.specs.Items.{request_of}
-use Rattle.placing_run.specs.declared.checked.Placing.{Placing}
+use Rattle.placing_run.specs.declared.checked.Placed.{Placed}
+use Rattle.refusals.specs.Numbers.{numbered}
+use Rattle.refusals.specs.declared.Refusal as R
 use Rattle.placing_run.specs.Placing.{placing_of}
 use Rattle.board_bytes.specs.declared.header.Head.{Head}
-use Rattle.board_file.specs.declared.FileAnswer.TheVariants as A
 use Rattle.board_bytes.specs.File.{word_at, numbers, head_of, items_in, good_file}
 use Rattle.board_file.specs.File.{request_in, file_outcome, answer_of, file_answers_left, file_rows_left, file_columns_left, file_items_left}
 use Rattle.board_bytes.proofs.Judged.{head_count}
@@ -71,8 +72,8 @@ module _ (bs : List ℕ) where
     few_items k old = rw (g, le-leb (word_at bs 18) 2000 k) refl
 
     -- a count over 2000: nothing is changed
-    pub many_refused : (x : Refusal) (n : ℕ) (is zs rs cs : List ℤ) → 2000 < word_at bs 18 → checked (request_in bs a c r) ≡ some x
-        → (A.Refused x.number x.index ≡ answer_of n (placing_of (file_outcome bs a c r)))
+    pub many_refused : (x : Refusal) (n : ℕ) (is zs rs cs : List ℤ) → 2000 < word_at bs 18 → checked (request_in bs a c r) ≡ Some x
+        → (Err (numbered x.number x.index) ≡ answer_of n (placing_of (file_outcome bs a c r)))
         × ((is ≡ file_items_left bs is) × ((zs ≡ file_answers_left bs a c r zs) × ((rs ≡ file_rows_left bs a c r rs) × (cs ≡ file_columns_left bs a c r cs))))
     many_refused x n is zs rs cs k e =
         let o = checks_refuse (request_in bs a c r) x.number x.index e in
@@ -94,7 +95,7 @@ module _ (bs : List ℕ) where
         f ∙ ap (λ (m : ℕ). numbers bs 20 (6 * m) ++ drop (6 * m) old) n ∙ few_items (omega arith) old
 
     -- what the door gives for them
-    pub door : (q : Request) (p : Placing) (n : ℕ) (z zs r₁ rs c₁ cs : List ℤ) → q ≡ request_in bs a c r
+    pub door : (q : Request) (p : Result Placed R.Refusal) (n : ℕ) (z zs r₁ rs c₁ cs : List ℤ) → q ≡ request_in bs a c r
         → (p ≡ placing_of (outcome q)) × ((z ≡ answers_left q zs (outcome q)) × ((r₁ ≡ rows_left q rs (outcome q)) × (c₁ ≡ columns_left q cs (outcome q))))
         → (answer_of n p ≡ answer_of n (placing_of (file_outcome bs a c r)))
         × ((z ≡ file_answers_left bs a c r zs) × ((r₁ ≡ file_rows_left bs a c r rs) × (c₁ ≡ file_columns_left bs a c r cs)))
@@ -112,7 +113,7 @@ module _ (bs : List ℕ) where
   -- ---- no file
   module _ (a c r n : ℕ) (is zs rs cs : List ℤ) where
     pub no_file : good_file bs ≡ false
-        → (A.Refused 12 0 ≡ answer_of n (placing_of (file_outcome bs a c r)))
+        → (Err (numbered 12 0) ≡ answer_of n (placing_of (file_outcome bs a c r)))
         × ((is ≡ file_items_left bs is) × ((zs ≡ file_answers_left bs a c r zs) × ((rs ≡ file_rows_left bs a c r rs) × (cs ≡ file_columns_left bs a c r cs))))
     unfolding file_outcome file_items_left file_answers_left file_rows_left file_columns_left
     no_file g = rw g (refl, (refl, (refl, (refl, refl))))

@@ -1,13 +1,12 @@
 -- A file placed: refusal 12, or the outcome of the request that the file tells.
-use Rattle.std.specs.Prelude.{◌≡◌, cond, ◌&&◌, List, ◌++◌, ℕ, ◌*◌, leb, ℤ, length, get_or, drop}
+use Rattle.std.specs.Prelude.{◌≡◌, cond, ◌&&◌, List, ◌++◌, ℕ, ◌*◌, leb, ℤ, length, get_or, drop, Result, Ok, Err}
 use Rattle.theory_walk.specs.Request.{Request, Outcome, refused, outcome, answers_left, rows_left, columns_left}
 use Rattle.placing_request.specs.Items.{request_of}
 use Rattle.placing_run.specs.Placing.{placing_of}
-use Rattle.placing_run.specs.declared.checked.Placing.{Placing}
-use Rattle.placing_run.specs.declared.checked.Placing.TheVariants as P
+use Rattle.refusals.specs.declared.Refusal as R
+use Rattle.placing_run.specs.declared.checked.Placed.{Placed}
 use Rattle.board_bytes.specs.File.{word_at, counts_at, items_in, good_file}
-use Rattle.board_file.specs.declared.FileAnswer.{FileAnswer}
-use Rattle.board_file.specs.declared.FileAnswer.TheVariants as A
+use Rattle.board_file.specs.declared.PlacedFile.{PlacedFile}
 
 -- ---- "Refusal 12 is judged before 1 to 6"
 
@@ -19,9 +18,9 @@ unfoldable pub file_outcome : List ℕ → ℕ → ℕ → ℕ → Outcome
 file_outcome bs a c r = cond (good_file bs) (outcome (request_in bs a c r)) (refused 12 0)
 
 -- as it is answered: with the item count
-abbrev pub answer_of : ℕ → Placing → FileAnswer
-answer_of n (P.Refused k i) = A.Refused k i
-answer_of n (P.Placed c r) = A.Placed n c r
+abbrev pub answer_of : ℕ → Result Placed R.Refusal → Result PlacedFile R.Refusal
+answer_of n (Err x) = Err x
+answer_of n (Ok p) = Ok (record { count = n; columns = p.columns; rows = p.rows })
 
 -- refusal 12 leaves all "unchanged"
 unfoldable pub file_answers_left : List ℕ → ℕ → ℕ → ℕ → List ℤ → List ℤ
@@ -38,7 +37,7 @@ unfoldable pub file_items_left : List ℕ → List ℤ → List ℤ
 file_items_left bs old = cond (good_file bs && leb (word_at bs 18) 2000) (items_in bs ++ drop (6 * word_at bs 18) old) old
 
 -- what a file's placement gives and leaves: the answer, and the buffers' numbers of before and of after
-pub record FilePlaced (bs : List ℕ) (is zs rs cs : List ℤ) (r : FileAnswer) (is₂ zs₂ rs₂ cs₂ : List ℤ) : Type 0 where
+pub record FilePlaced (bs : List ℕ) (is zs rs cs : List ℤ) (r : Result PlacedFile R.Refusal) (is₂ zs₂ rs₂ cs₂ : List ℤ) : Type 0 where
   pub told : r ≡ answer_of (word_at bs 18) (placing_of (file_outcome bs (length zs) (length cs) (length rs)))
   pub items : is₂ ≡ file_items_left bs is
   pub answers : zs₂ ≡ file_answers_left bs (length zs) (length cs) (length rs) zs

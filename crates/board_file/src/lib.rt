@@ -6,26 +6,20 @@ ghost use Rattle.placing_run.specs.Placing.{placing_of};
 ghost use Rattle.board_bytes.specs.File.{good_file, head_of};
 ghost use Rattle.board_file.specs.File.{FilePlaced, answer_of, file_outcome, file_answers_left, file_rows_left, file_columns_left, file_items_left};
 
-use board_bytes::header::{FileHeader, Head, read_header};
+use board_bytes::header::{Head, read_header};
 use board_bytes::items::read_items;
 use grid_track_counts::TrackCounts;
 use hoarbale_placing::place;
-use placing_run::checked::Placing;
+use placing_request::flow::Flow;
+use placing_run::checked::Placed;
+use refusals::Refusal;
 
-// The item count and the final counts of columns and rows, or a refusal's number and index.
+// The item count and the final counts.
 #[derive(Clone, Copy)]
-pub enum FileAnswer {
-    Placed(u16, TrackCounts, TrackCounts),
-    Refused(u8, usize),
-}
-
-fn answer(count: u16, placed: Placing) -> FileAnswer
-    ensures { result ≡ answer_of count placed }
-{
-    match placed {
-        Placing::Refused(number, i) => FileAnswer::Refused(number, i),
-        Placing::Placed(columns, rows) => FileAnswer::Placed(count, columns, rows),
-    }
+pub struct PlacedFile {
+    pub count: u16,
+    pub columns: TrackCounts,
+    pub rows: TrackCounts,
 }
 
 // More than 2000 items are refused by their count, after the flow, as the door would: their numbers need no place.
@@ -36,7 +30,7 @@ fn place_good(
     answers: &mut [i16],
     row_list: &mut [i16],
     column_list: &mut [i16],
-) -> FileAnswer
+) -> Result<PlacedFile, Refusal>
     requires bytes_value { good_file bytes.now ≡ true }
     requires head_value { head ≡ head_of bytes.now }
     requires in_bounds { 12000 ≤ length items.old }
@@ -46,28 +40,26 @@ fn place_good(
     ensures row_list_after { row_list.new ≡ file_rows_left bytes.now (length answers.old) (length column_list.old) (length row_list.old) row_list.old }
     ensures column_list_after { column_list.new ≡ file_columns_left bytes.now (length answers.old) (length column_list.old) (length row_list.old) column_list.old }
 {
-    let flow = head.flow;
-    let count = head.count;
-    if 2000 < count {
-        if 3 < flow {
-            return FileAnswer::Refused(1, 0);
-        }
-        return FileAnswer::Refused(2, 0);
+    if head.count > 2000 {
+        Flow::try_from(head.flow)?;
+        return Err(Refusal::WrongItemNumbers);
     }
-    let n = 6 * (count as usize);
+    let n = 6 * head.count as usize;
     read_items(bytes, items, n);
-    let columns = head.columns;
-    let rows = head.rows;
-    let placed = place(
-        flow,
-        columns,
-        rows,
+    let Placed { columns, rows } = place(
+        head.flow,
+        head.columns,
+        head.rows,
         &items[..n],
         answers,
         row_list,
         column_list,
-    );
-    answer(count, placed)
+    )?;
+    Ok(PlacedFile {
+        count: head.count,
+        columns,
+        rows,
+    })
 }
 
 // Places the items of a file. Bytes that are no file are refused by 12 and change no buffer.
@@ -77,12 +69,9 @@ pub fn place_file(
     answers: &mut [i16],
     row_list: &mut [i16],
     column_list: &mut [i16],
-) -> FileAnswer
+) -> Result<PlacedFile, Refusal>
     ensures { FilePlaced bytes.now items.old answers.old row_list.old column_list.old result items.new answers.new row_list.new column_list.new }
 {
-    let header = read_header(bytes);
-    match header {
-        FileHeader::Refused => FileAnswer::Refused(12, 0),
-        FileHeader::Good(head) => place_good(bytes, head, items, answers, row_list, column_list),
-    }
+    let head = read_header(bytes)?;
+    place_good(bytes, head, items, answers, row_list, column_list)
 }

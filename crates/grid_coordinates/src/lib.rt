@@ -2,20 +2,20 @@
 // end edge, or origin-zero, where 0 is the start edge of the explicit grid. Each system has a type of its own.
 #![tactic(auto)]
 
-ghost use Rattle.std.specs.Prelude.{◌≡◌, ℕ, ◌≤◌, ◌-◌, ℤ, pos, negsuc, ◌≤ℤ◌};
+ghost use Rattle.std.specs.Prelude.{◌≡◌, ℕ, ◌≤◌, ◌-◌};
 ghost use Rattle.theory_signed.specs.Parts.{up, dn};
 ghost use Rattle.grid_coordinates.specs.Line.{lowest, highest, clamp_to, origin_zero_of, css_of, limited, pressed, InGrid};
 
-// A line as CSS numbers it. 0 is none.
-#[derive(Clone, Copy)]
+// A line as CSS numbers it. 0 is none. Its numbers are in no order along the axis: -1 is behind 1.
+#[derive(Clone, Copy, PartialEq, Eq)]
 pub struct GridLine(pub i16);
 
 // A line as the placement numbers it.
-#[derive(Clone, Copy)]
+#[derive(Clone, Copy, PartialEq, Eq, PartialOrd, Ord)]
 pub struct OriginZeroLine(pub i16);
 
 // A start and an end line, both origin-zero.
-#[derive(Clone, Copy)]
+#[derive(Clone, Copy, PartialEq, Eq)]
 pub struct Lines {
     pub start: i16,
     pub end: i16,
@@ -30,15 +30,17 @@ pub struct Limiting {
 
 impl GridLine {
     // The origin-zero line, limited. The caller has seen to it that there is such a line: 0 is none.
+    #[tactic(auto, unfolding(crate::specs::Line::origin_zero_of))]
     pub fn into_origin_zero_line(self, explicit: u16) -> OriginZeroLine
         requires { explicit ≤ 10000 }
         ensures { result.0 ≡ origin_zero_of self.0 explicit }
     {
-        let line = self.0 as i32;
-        if 0 < line {
-            return OriginZeroLine::clamped(line - 1);
+        let line = i32::from(self.0);
+        if line > 0 {
+            OriginZeroLine::clamped(line - 1)
+        } else {
+            OriginZeroLine::clamped(line + i32::from(explicit) + 1)
         }
-        OriginZeroLine::clamped(line + (explicit as i32) + 1)
     }
 }
 
@@ -48,29 +50,30 @@ impl OriginZeroLine {
     pub const MAX: OriginZeroLine = OriginZeroLine(10000);
 
     // The line of the limited grid that is nearest to `line`.
+    #[tactic(auto, unfolding(crate::specs::Line::clamp_to))]
     pub fn clamped(line: i32) -> OriginZeroLine
         ensures { result.0 ≡ clamp_to lowest highest line }
     {
-        if line < OriginZeroLine::MIN.0 as i32 {
-            return OriginZeroLine::MIN;
-        }
-        if line > OriginZeroLine::MAX.0 as i32 {
-            return OriginZeroLine::MAX;
-        }
-        OriginZeroLine(line as i16)
+        let nearest = line.clamp(
+            i32::from(OriginZeroLine::MIN.0),
+            i32::from(OriginZeroLine::MAX.0),
+        );
+        OriginZeroLine(nearest as i16)
     }
 
     // The CSS line: counted from the start edge for a line there or behind it, else from the end edge.
+    #[tactic(auto, unfolding(crate::specs::Line::css_of))]
     pub fn into_grid_line(self, explicit: u16) -> GridLine
         requires in_grid { InGrid self.0 }
         requires explicit_bound { explicit ≤ 10000 }
         ensures { result.0 ≡ css_of self.0 explicit }
     {
         let line = self.0;
-        if 0 <= line {
-            return GridLine(line + 1);
+        if line >= 0 {
+            GridLine(line + 1)
+        } else {
+            GridLine(line - (explicit as i16) - 1)
         }
-        GridLine(line - (explicit as i16) - 1)
     }
 
     // The fewest negative implicit tracks that a grid has with an item that starts here.
@@ -78,11 +81,7 @@ impl OriginZeroLine {
         requires { InGrid self.0 }
         ensures { result ≡ dn self.0 }
     {
-        let line = self.0;
-        if line < 0 {
-            return (-line) as u16;
-        }
-        0
+        (-self.0).max(0) as u16
     }
 
     // The fewest positive implicit tracks that a grid has with an item that ends here.
@@ -91,26 +90,8 @@ impl OriginZeroLine {
         requires explicit_bound { explicit ≤ 10000 }
         ensures { result ≡ up self.0 - explicit }
     {
-        let line = self.0;
-        if (explicit as i16) < line {
-            return (line as u16) - explicit;
-        }
-        0
+        (self.0.max(0) as u16).saturating_sub(explicit)
     }
-}
-
-// z, or the bound that it has passed.
-fn between(lo: i16, hi: i16, z: i16) -> i16
-    requires { lo ≤ℤ hi }
-    ensures { result ≡ clamp_to lo hi z }
-{
-    if z < lo {
-        return lo;
-    }
-    if hi < z {
-        return hi;
-    }
-    z
 }
 
 impl Lines {
@@ -118,22 +99,14 @@ impl Lines {
     pub fn into_limited_grid(self) -> Limiting
         ensures { (result.lines ≡ limited self) × (result.pressed ≡ pressed self) }
     {
-        let from = self.start;
-        let to = self.end;
-        let start = between(OriginZeroLine::MIN.0, OriginZeroLine::MAX.0 - 1, from);
-        let end = between(start + 1, OriginZeroLine::MAX.0, to);
+        let start = self
+            .start
+            .clamp(OriginZeroLine::MIN.0, OriginZeroLine::MAX.0 - 1);
+        let end = self.end.clamp(start + 1, OriginZeroLine::MAX.0);
         let lines = Lines { start, end };
-        if start == from {
-            if end == to {
-                return Limiting {
-                    lines,
-                    pressed: false,
-                };
-            }
-        }
         Limiting {
             lines,
-            pressed: true,
+            pressed: lines != self,
         }
     }
 }

@@ -1,4 +1,5 @@
 -- What document 01 says of an axis's counts, as theorems about the definitions of specs/Counts.antt, which the functions' contracts cite.
+use Rattle.std.specs.Prelude.{None, Some}
 use mathlib.Core.Path.{◌≡◌, refl, subst, sym}
 use mathlib.Core.Bool.{Bool, true, false, ◌&&◌}
 use Prim.Native.Nat.{◌+◌, ◌≤◌, ◌*◌}
@@ -11,7 +12,6 @@ use Rattle.theory_signed.proofs.Laws.{signed, neg, apart, g_lt_true, g_lt_false}
 use Rattle.grid_coordinates.specs.declared.Lines.{Lines}
 use Rattle.grid_coordinates.specs.Line.{Limited}
 use Rattle.grid_track_counts.specs.declared.TrackCounts.{TrackCounts}
-use Rattle.grid_track_counts.specs.declared.TrackVecIndex.TheVariants.{At, Absent}
 use Rattle.grid_track_counts.specs.Counts.{counts_good, Sound, grid_start, grid_end, Covers, Grows, grown, index_of}
 
 -- counts that pass the test keep within the limits
@@ -46,15 +46,15 @@ unfolding grown
 grown_sound t l s m = record { before = omega (signed, apart l.start); after = omega (signed, apart l.end) }
 
 -- "Index in the track vector: 2(z + negative)": from the grid start to the grid end, both lines among them,
-pub index_inside : (t : TrackCounts) (z : ℤ) → grid_start t ≤ℤ z → z ≤ℤ grid_end t → index_of t z ≡ At (2 * nat_abs (z +ℤ pos t.negative))
+pub index_inside : (t : TrackCounts) (z : ℤ) → grid_start t ≤ℤ z → z ≤ℤ grid_end t → index_of t z ≡ Some (2 * nat_abs (z +ℤ pos t.negative))
 unfolding index_of
 index_inside t z lo hi = let n = neg (pos t.negative) in rw (g_lt_false z (grid_start t) (omega signed), g_lt_false (grid_end t) z (omega signed))
 
 -- "or absent for any z outside grid start..grid end"
-pub index_before : (t : TrackCounts) (z : ℤ) → z <ℤ grid_start t → index_of t z ≡ Absent
+pub index_before : (t : TrackCounts) (z : ℤ) → z <ℤ grid_start t → index_of t z ≡ None
 unfolding index_of
 index_before t z h = rw (g_lt_true z (grid_start t) (omega signed))
 
-pub index_behind : (t : TrackCounts) (z : ℤ) → grid_end t <ℤ z → index_of t z ≡ Absent
+pub index_behind : (t : TrackCounts) (z : ℤ) → grid_end t <ℤ z → index_of t z ≡ None
 unfolding index_of
 index_behind t z h = let n = neg (pos t.negative) in rw (g_lt_false z (grid_start t) (omega signed), g_lt_true (grid_end t) z (omega signed))

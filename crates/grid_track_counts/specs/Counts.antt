@@ -1,11 +1,9 @@
 -- The counts of an axis. Document 01, "Numbers a request is made of" and "List calls and line conversions".
-use Rattle.std.specs.Prelude.{◌≡◌, Bool, cond, ◌&&◌, ◌+◌, ◌-◌, ◌*◌, ◌≤◌, max, leb, ℤ, pos, neg_ℤ, nat_abs, ◌+ℤ◌, ◌≤ℤ◌}
+use Rattle.std.specs.Prelude.{◌≡◌, Bool, cond, ◌&&◌, ◌+◌, ◌-◌, ◌*◌, ◌≤◌, max, leb, ℤ, pos, neg_ℤ, nat_abs, ◌+ℤ◌, ◌≤ℤ◌, ℕ, Option, Some, None}
 use Rattle.std.specs.Int.Signed.{lt_z}
 use Rattle.theory_signed.specs.Parts.{up, dn}
 use Rattle.grid_coordinates.specs.declared.Lines.{Lines}
 use Rattle.grid_track_counts.specs.declared.TrackCounts.{TrackCounts}
-use Rattle.grid_track_counts.specs.declared.TrackVecIndex.{TrackVecIndex}
-use Rattle.grid_track_counts.specs.declared.TrackVecIndex.TheVariants.{At, Absent}
 
 -- "Negative at most 10000; explicit plus positive at most 10000." As a test, and as what passing it tells
 unfoldable pub counts_good : TrackCounts → Bool
@@ -43,7 +41,7 @@ grown t l =
     }
 
 -- "Index in the track vector: 2(z + negative), or absent for any z outside grid start..grid end"
-unfoldable pub index_of : TrackCounts → ℤ → TrackVecIndex
+unfoldable pub index_of : TrackCounts → ℤ → Option ℕ
 index_of t z =
-    cond (lt_z z (grid_start t)) Absent
-    (cond (lt_z (grid_end t) z) Absent (At (2 * nat_abs (z +ℤ pos t.negative))))
+    cond (lt_z z (grid_start t)) None
+    (cond (lt_z (grid_end t) z) None (Some (2 * nat_abs (z +ℤ pos t.negative))))

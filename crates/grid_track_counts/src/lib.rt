@@ -7,41 +7,20 @@ ghost use Rattle.grid_track_counts.specs.Counts.{Sound, counts_good, grid_start,
 
 use grid_coordinates::{Lines, OriginZeroLine};
 
-#[derive(Clone, Copy)]
+#[derive(Clone, Copy, PartialEq, Eq)]
 pub struct TrackCounts {
     pub negative: u16,
     pub explicit: u16,
     pub positive: u16,
 }
 
-// A line's place in the vector of lines and tracks, in which lines have the even places.
-#[derive(Clone, Copy)]
-pub enum TrackVecIndex {
-    At(u32),
-    Absent,
-}
-
-fn larger(a: u16, b: u16) -> u16
-    ensures { result ≡ max a b }
-{
-    if a < b {
-        return b;
-    }
-    a
-}
-
 impl TrackCounts {
     // Whether the counts keep within the limits.
+    #[tactic(auto, unfolding(crate::specs::Counts::counts_good))]
     pub fn are_good(self) -> bool
         ensures { result ≡ counts_good self }
     {
-        if self.negative > 10000 {
-            return false;
-        }
-        if self.explicit as u32 + self.positive as u32 > 10000 {
-            return false;
-        }
-        true
+        self.negative <= 10000 && u32::from(self.explicit) + u32::from(self.positive) <= 10000
     }
 
     // How many tracks there are in all.
@@ -67,36 +46,31 @@ impl TrackCounts {
     }
 
     // The counts with as few tracks more as cover the lines.
+    #[tactic(auto, unfolding(crate::specs::Counts::grown))]
     pub fn grown(self, lines: Lines) -> TrackCounts
         requires sound { Sound self }
         requires limited { Limited lines }
         ensures { result ≡ grown self lines }
     {
-        let start = OriginZeroLine(lines.start);
-        let end = OriginZeroLine(lines.end);
-        let explicit = self.explicit;
-        let before = start.implied_negative_implicit_tracks();
-        let behind = end.implied_positive_implicit_tracks(explicit);
+        let before = OriginZeroLine(lines.start).implied_negative_implicit_tracks();
+        let behind = OriginZeroLine(lines.end).implied_positive_implicit_tracks(self.explicit);
         TrackCounts {
-            negative: larger(self.negative, before),
-            explicit,
-            positive: larger(self.positive, behind),
+            negative: self.negative.max(before),
+            positive: self.positive.max(behind),
+            ..self
         }
     }
 
     // The place of a line in the track vector; no place outside the grid.
-    pub fn track_vec_index(self, line: OriginZeroLine) -> TrackVecIndex
+    #[tactic(auto, unfolding(crate::specs::Counts::index_of))]
+    pub fn track_vec_index(self, line: OriginZeroLine) -> Option<u32>
         requires { Sound self }
         ensures { result ≡ index_of self line.0 }
     {
-        let z = line.0;
-        if z < self.implicit_start_line().0 {
-            return TrackVecIndex::Absent;
+        if line < self.implicit_start_line() || line > self.implicit_end_line() {
+            return None;
         }
-        if z > self.implicit_end_line().0 {
-            return TrackVecIndex::Absent;
-        }
-        let n = (z + (self.negative as i16)) as u32;
-        TrackVecIndex::At(2 * n)
+        let n = (line.0 + self.negative as i16) as u32;
+        Some(2 * n)
     }
 }

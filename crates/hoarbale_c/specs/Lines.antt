@@ -1,16 +1,23 @@
--- The answers of the door as structs of numbers.
-use Rattle.hoarbale_lines.specs.declared.OriginZeroAnswer.{OriginZeroAnswer}
-use Rattle.hoarbale_lines.specs.declared.CssAnswer.{CssAnswer}
-use Rattle.hoarbale_lines.specs.declared.IndexAnswer.{IndexAnswer}
-use Rattle.hoarbale_lines.specs.Lines.{zero_number, zero_line, css_number, css_line, index_number, index_present, index_place}
+-- The answers of the calls on lines as structs of numbers.
+use Rattle.std.specs.Prelude.{ℕ, ℤ, pos, Option, Result, Ok, Err}
+use Rattle.grid_coordinates.specs.declared.GridLine.{GridLine}
+use Rattle.grid_coordinates.specs.declared.OriginZeroLine.{OriginZeroLine}
+use Rattle.refusals.specs.declared.Refusal.{Refusal}
+use Rattle.refusals.specs.Numbers.{number, number_of}
+use Rattle.hoarbale_lines.specs.Lines.{zero_line, css_line, index_present, index_place}
 use Rattle.hoarbale_c.specs.declared.lines.LineAnswer.{LineAnswer}
 use Rattle.hoarbale_c.specs.declared.lines.PlaceInVector.{PlaceInVector}
 
-abbrev pub of_zero : OriginZeroAnswer → LineAnswer
-of_zero r = record { number = zero_number r; line = zero_line r }
+-- a line, of either numbering
+abbrev pub of_line : Result ℤ Refusal → LineAnswer
+of_line (Ok z) = record { number = 0; line = z }
+of_line (Err e) = record { number = number e; line = pos 0 }
 
-abbrev pub of_css : CssAnswer → LineAnswer
-of_css r = record { number = css_number r; line = css_line r }
+abbrev pub of_zero : Result OriginZeroLine Refusal → LineAnswer
+of_zero r = record { number = number_of r; line = zero_line r }
 
-abbrev pub of_index : IndexAnswer → PlaceInVector
-of_index r = record { number = index_number r; present = index_present r; index = index_place r }
+abbrev pub of_css : Result GridLine Refusal → LineAnswer
+of_css r = record { number = number_of r; line = css_line r }
+
+abbrev pub of_index : Result (Option ℕ) Refusal → PlaceInVector
+of_index r = record { number = number_of r; present = index_present r; index = index_place r }

@@ -1,11 +1,11 @@
 // Line conversions, and a line's place in the track vector.
 ghost use Rattle.std.specs.Prelude.{◌≡◌};
 ghost use Rattle.hoarbale_lines.specs.Lines.{origin_zero_answer, css_answer, index_answer};
-ghost use Rattle.hoarbale_c.specs.Lines.{of_zero, of_css, of_index};
+ghost use Rattle.hoarbale_c.specs.Lines.{of_line, of_zero, of_css, of_index};
 
 use grid_coordinates::{GridLine, OriginZeroLine};
 use grid_track_counts::TrackCounts;
-use hoarbale_lines::{CssAnswer, IndexAnswer, OriginZeroAnswer};
+use refusals::Refusal;
 
 #[repr(C)]
 #[derive(Clone, Copy)]
@@ -22,18 +22,45 @@ pub struct PlaceInVector {
     pub index: u32,
 }
 
+impl From<Result<i16, Refusal>> for LineAnswer {
+    ghost from_gives = { λ answer told. told ≡ of_line answer };
+
+    fn from(answer: Result<i16, Refusal>) -> LineAnswer {
+        match answer {
+            Ok(line) => LineAnswer { number: 0, line },
+            Err(refusal) => LineAnswer {
+                number: refusal.number(),
+                line: 0,
+            },
+        }
+    }
+}
+
+impl From<Result<Option<u32>, Refusal>> for PlaceInVector {
+    ghost from_gives = { λ answer told. told ≡ of_index answer };
+
+    fn from(answer: Result<Option<u32>, Refusal>) -> PlaceInVector {
+        match answer {
+            Ok(place) => PlaceInVector {
+                number: 0,
+                present: place.is_some(),
+                index: place.unwrap_or(0),
+            },
+            Err(refusal) => PlaceInVector {
+                number: refusal.number(),
+                present: false,
+                index: 0,
+            },
+        }
+    }
+}
+
 #[unsafe(no_mangle)]
 pub extern "C" fn hoarbale_origin_zero_line(css_line: i16, explicit: u16) -> LineAnswer
     ensures { result ≡ of_zero (origin_zero_answer css_line explicit) }
 {
     let answer = hoarbale_lines::origin_zero_line(GridLine(css_line), explicit);
-    match answer {
-        OriginZeroAnswer::Line(found) => LineAnswer {
-            number: 0,
-            line: found.0,
-        },
-        OriginZeroAnswer::Refused(number) => LineAnswer { number, line: 0 },
-    }
+    LineAnswer::from(answer.map(|line| line.0))
 }
 
 #[unsafe(no_mangle)]
@@ -41,13 +68,7 @@ pub extern "C" fn hoarbale_css_line(line: i16, explicit: u16) -> LineAnswer
     ensures { result ≡ of_css (css_answer line explicit) }
 {
     let answer = hoarbale_lines::css_line(OriginZeroLine(line), explicit);
-    match answer {
-        CssAnswer::Line(found) => LineAnswer {
-            number: 0,
-            line: found.0,
-        },
-        CssAnswer::Refused(number) => LineAnswer { number, line: 0 },
-    }
+    LineAnswer::from(answer.map(|found| found.0))
 }
 
 #[unsafe(no_mangle)]
@@ -64,22 +85,5 @@ pub extern "C" fn hoarbale_track_index(
         explicit,
         positive,
     };
-    let answer = hoarbale_lines::track_index(counts, OriginZeroLine(line));
-    match answer {
-        IndexAnswer::At(index) => PlaceInVector {
-            number: 0,
-            present: true,
-            index,
-        },
-        IndexAnswer::Absent => PlaceInVector {
-            number: 0,
-            present: false,
-            index: 0,
-        },
-        IndexAnswer::Refused(number) => PlaceInVector {
-            number,
-            present: false,
-            index: 0,
-        },
-    }
+    PlaceInVector::from(hoarbale_lines::track_index(counts, OriginZeroLine(line)))
 }

@@ -1,11 +1,12 @@
 // Calls on one list. A returned part of a list becomes its start and its length.
 ghost use Rattle.std.specs.Prelude.{◌≡◌};
 ghost use Rattle.list_tracks.specs.Tracks.{records_of_track, named, Stands};
-ghost use Rattle.list_painting.specs.Painting.{area_of};
-ghost use Rattle.hoarbale_lists.specs.Lists.{paint_answer, paint_left, paint_number, collision_answer, occupied_answer};
+ghost use Rattle.list_areas.specs.Areas.{area_of};
+ghost use Rattle.refusals.specs.Numbers.{number_of};
+ghost use Rattle.hoarbale_lists.specs.Lists.{paint_answer, paint_left, collision_answer, occupied_answer};
 ghost use Rattle.hoarbale_c.specs.Lists.{of_jump};
 
-use hoarbale_lists::{JumpAnswer, PaintAnswer};
+use refusals::Refusal;
 
 #[repr(C)]
 #[derive(Clone, Copy)]
@@ -32,35 +33,29 @@ pub extern "C" fn hoarbale_paint(
     end: i16,
     state: i16,
 ) -> u8
-    ensures value { result ≡ paint_number (paint_answer list.old (area_of track_start track_end start end state)) }
+    ensures value { result ≡ number_of (paint_answer list.old (area_of track_start track_end start end state)) }
     ensures list_after { list.new ≡ paint_left list.old (area_of track_start track_end start end state) }
 {
-    let answer = hoarbale_lists::paint(list, track_start, track_end, start, end, state);
-    match answer {
-        PaintAnswer::Painted => 0,
-        PaintAnswer::Refused(number) => number,
+    match hoarbale_lists::paint(list, track_start, track_end, start, end, state) {
+        Ok(()) => 0,
+        Err(refusal) => refusal.number(),
     }
 }
 
-fn told(answer: JumpAnswer) -> NextLine
-    ensures { result ≡ of_jump answer }
-{
-    match answer {
-        JumpAnswer::Next(line) => NextLine {
-            number: 0,
-            found: true,
-            line,
-        },
-        JumpAnswer::Free => NextLine {
-            number: 0,
-            found: false,
-            line: 0,
-        },
-        JumpAnswer::Refused(number) => NextLine {
+impl From<Result<Option<i16>, Refusal>> for NextLine {
+    ghost from_gives = { λ answer next. next ≡ of_jump answer };
+
+    fn from(answer: Result<Option<i16>, Refusal>) -> NextLine {
+        let (number, found, line) = match answer {
+            Ok(Some(line)) => (0, true, line),
+            Ok(None) => (0, false, 0),
+            Err(refusal) => (refusal.number(), false, 0),
+        };
+        NextLine {
             number,
-            found: false,
-            line: 0,
-        },
+            found,
+            line,
+        }
     }
 }
 
@@ -74,7 +69,7 @@ pub extern "C" fn hoarbale_collision_jump(
 ) -> NextLine
     ensures { result ≡ of_jump (collision_answer list.now track_start track_end start end) }
 {
-    told(hoarbale_lists::collision_jump(list, track_start, track_end, start, end))
+    NextLine::from(hoarbale_lists::collision_jump(list, track_start, track_end, start, end))
 }
 
 #[unsafe(no_mangle)]
@@ -85,7 +80,7 @@ pub extern "C" fn hoarbale_occupied_track_jump(
 ) -> NextLine
     ensures { result ≡ of_jump (occupied_answer list.now track_start track_end) }
 {
-    told(hoarbale_lists::occupied_track_jump(list, track_start, track_end))
+    NextLine::from(hoarbale_lists::occupied_track_jump(list, track_start, track_end))
 }
 
 // Where the part stands that `records_of_track` gives; at 0 where it is empty.

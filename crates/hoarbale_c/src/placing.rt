@@ -6,10 +6,11 @@ ghost use Rattle.placing_run.specs.Placing.{placing_of};
 ghost use Rattle.hoarbale_c.specs.Placing.{to_tracks, of_tracks, of_placing};
 
 use grid_track_counts::TrackCounts;
-use placing_run::checked::Placing;
+use placing_run::checked::Placed;
+use refusals::Refusal;
 
 #[repr(C)]
-#[derive(Clone, Copy)]
+#[derive(Clone, Copy, Default)]
 pub struct Counts {
     pub negative: u16,
     pub explicit: u16,
@@ -25,49 +26,47 @@ pub struct PlaceAnswer {
     pub rows: Counts,
 }
 
-fn to_tracks(counts: Counts) -> TrackCounts
-    ensures { result ≡ to_tracks counts }
-{
-    TrackCounts {
-        negative: counts.negative,
-        explicit: counts.explicit,
-        positive: counts.positive,
+impl From<Counts> for TrackCounts {
+    ghost from_gives = { λ counts tracks. tracks ≡ to_tracks counts };
+
+    fn from(counts: Counts) -> TrackCounts {
+        TrackCounts {
+            negative: counts.negative,
+            explicit: counts.explicit,
+            positive: counts.positive,
+        }
     }
 }
 
-fn of_tracks(counts: TrackCounts) -> Counts
-    ensures { result ≡ of_tracks counts }
-{
-    Counts {
-        negative: counts.negative,
-        explicit: counts.explicit,
-        positive: counts.positive,
+impl From<TrackCounts> for Counts {
+    ghost from_gives = { λ tracks counts. counts ≡ of_tracks tracks };
+
+    fn from(counts: TrackCounts) -> Counts {
+        Counts {
+            negative: counts.negative,
+            explicit: counts.explicit,
+            positive: counts.positive,
+        }
     }
 }
 
-fn of_placing(placing: Placing) -> PlaceAnswer
-    ensures { result ≡ of_placing placing }
-{
-    match placing {
-        Placing::Placed(columns, rows) => PlaceAnswer {
-            number: 0,
-            index: 0,
-            columns: of_tracks(columns),
-            rows: of_tracks(rows),
-        },
-        Placing::Refused(number, index) => {
-            let columns = Counts {
-                negative: 0,
-                explicit: 0,
-                positive: 0,
-            };
-            let rows = columns;
-            PlaceAnswer {
-                number,
-                index,
-                columns,
-                rows,
-            }
+impl From<Result<Placed, Refusal>> for PlaceAnswer {
+    ghost from_gives = { λ placing answer. answer ≡ of_placing placing };
+
+    fn from(placing: Result<Placed, Refusal>) -> PlaceAnswer {
+        match placing {
+            Ok(placed) => PlaceAnswer {
+                number: 0,
+                index: 0,
+                columns: placed.columns.into(),
+                rows: placed.rows.into(),
+            },
+            Err(refusal) => PlaceAnswer {
+                number: refusal.number(),
+                index: refusal.index(),
+                columns: Counts::default(),
+                rows: Counts::default(),
+            },
         }
     }
 }
@@ -87,16 +86,14 @@ pub extern "C" fn hoarbale_place(
     ensures row_list_after { row_list.new ≡ rows_left (request_of flow (to_tracks columns) (to_tracks rows) items.now (length answers.old) (length column_list.old) (length row_list.old)) row_list.old (outcome (request_of flow (to_tracks columns) (to_tracks rows) items.now (length answers.old) (length column_list.old) (length row_list.old))) }
     ensures column_list_after { column_list.new ≡ columns_left (request_of flow (to_tracks columns) (to_tracks rows) items.now (length answers.old) (length column_list.old) (length row_list.old)) column_list.old (outcome (request_of flow (to_tracks columns) (to_tracks rows) items.now (length answers.old) (length column_list.old) (length row_list.old))) }
 {
-    let column_counts = to_tracks(columns);
-    let row_counts = to_tracks(rows);
-    let placing = hoarbale_placing::place(
+    hoarbale_placing::place(
         flow,
-        column_counts,
-        row_counts,
+        columns.into(),
+        rows.into(),
         items,
         answers,
         row_list,
         column_list,
-    );
-    of_placing(placing)
+    )
+    .into()
 }

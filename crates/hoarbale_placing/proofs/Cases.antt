@@ -19,9 +19,10 @@ use Rattle.theory_walk.specs.Request.{halves, good_half, bad_from, item_of, leng
 use Rattle.placing_request.specs.Items.{request_of}
 use Rattle.placing_run.specs.Placing.{placing_of}
 use Rattle.hoarbale_placing.specs.Placing.{placing_number, placing_index, placing_columns, placing_rows}
-use Rattle.hoarbale_lines.specs.Lines.{origin_zero_answer, zero_number, zero_line}
-use Rattle.hoarbale_lists.specs.Lists.{checked_of, paint_answer, paint_left, paint_number, collision_answer, jump_number, jump_found, jump_line}
+use Rattle.hoarbale_lines.specs.Lines.{origin_zero_answer, zero_line}
+use Rattle.hoarbale_lists.specs.Lists.{checked_of, paint_answer, paint_left, collision_answer, jump_found, jump_line}
 use Rattle.hoarbale_placing.specs.Series.{series}
+use Rattle.refusals.specs.Numbers.{number_of}
 
 pub record Row : Type 0 where
   pub given : List ℤ
@@ -36,7 +37,7 @@ limiting a b told = let l = limited (lines a b) in record { given = l.start ∷ 
 
 -- case 3: a CSS line with explicit count 3: the refusal's number and the origin-zero line
 unfoldable pub css : ℤ → List ℤ → Row
-css n told = let r = origin_zero_answer n 3 in record { given = pos (zero_number r) ∷ zero_line r ∷ []; told = told }
+css n told = let r = origin_zero_answer n 3 in record { given = pos (number_of r) ∷ zero_line r ∷ []; told = told }
 
 -- an area of track 0
 abbrev pub on : ℕ → ℕ → ℕ → Area ℤ
@@ -44,11 +45,11 @@ on a b s = area (pos 0) (pos 1) (pos a) (pos b) s
 
 -- case 10: the last area of a series on a list of n numbers: the refusal's number and the list
 unfoldable pub painting : ℕ → List (Area ℤ) → Area ℤ → List ℤ → Row
-painting n xs x told = let l = series n xs in record { given = pos (paint_number (paint_answer l x)) ∷ paint_left l x; told = told }
+painting n xs x told = let l = series n xs in record { given = pos (number_of (paint_answer l x)) ∷ paint_left l x; told = told }
 
 -- case 11: the collision jump over track 0: the refusal's number, whether there is a line to go on from (1), and that line
 unfoldable pub jumping : List ℤ → ℤ → ℤ → List ℤ → Row
-jumping l a b told = let r = collision_answer l (pos 0) (pos 1) a b in record { given = pos (jump_number r) ∷ pos (cond (jump_found r) 1 0) ∷ jump_line r ∷ []; told = told }
+jumping l a b told = let r = collision_answer l (pos 0) (pos 1) a b in record { given = pos (number_of r) ∷ pos (cond (jump_found r) 1 0) ∷ jump_line r ∷ []; told = told }
 
 -- cases 1, 4, 5, 7, 8 and 9: flow; columns; rows; items, six numbers each; lengths of the row and the column list, all buffers zero: the refusal's number
 -- and index, the columns and the rows that come back, and what is left of the answer buffer, of the row list and of the column list. Where the document

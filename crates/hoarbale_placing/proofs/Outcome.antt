@@ -1,4 +1,5 @@
 -- What a paint through the call gives and leaves, and what a series of them leaves.
+use Rattle.std.specs.Prelude.{Result, Ok, Err}
 use mathlib.Core.Path.{◌≡◌, refl, sym, ap, ◌∙◌, subst}
 use mathlib.Core.Bool.{Bool, true, false, cond}
 use mathlib.Core.List.{List, [], ◌∷◌, ◌++◌}
@@ -19,29 +20,28 @@ use Rattle.theory_intervals.proofs.Limits.{paint_list_rules}
 use Rattle.theory_intervals.proofs.Lists.{flat_holds, flat_recs, empty_holds, holds_kept, holds_decode, holds_room, kept_holds}
 use Rattle.hoarbale_lists.specs.Lists.{checked_of, room, paint_of, paint_answer, left_by, paint_left}
 use Rattle.hoarbale_placing.specs.Series.{paint_all, noted, accepted_on, over_cell, Fits, Why, length_wrong, rules_broken, area_bad, no_room, is_room}
-use Rattle.hoarbale_lists.specs.declared.Checked.TheVariants as C
-use Rattle.hoarbale_lists.specs.declared.PaintAnswer.{PaintAnswer}
-use Rattle.hoarbale_lists.specs.declared.PaintAnswer.TheVariants as P
+use Rattle.refusals.specs.declared.Refusal.{Refusal}
+use Rattle.refusals.specs.declared.Refusal.TheVariants as R
 
 -- ---- the answer by four tests
 
-abbrev answer_by : Bool → Bool → Bool → Bool → PaintAnswer
-answer_by a b c d = cond a (cond b (cond c (cond d P.Painted (P.Refused 7)) (P.Refused 10)) (P.Refused 9)) (P.Refused 5)
+abbrev answer_by : Bool → Bool → Bool → Bool → Result Unit Refusal
+answer_by a b c d = cond a (cond b (cond c (cond d (Ok tt) (Err R.ShortList)) (Err R.BadArea)) (Err R.BrokenList)) (Err R.WrongListLength)
 
 by_tests : (l : List ℤ) (x : Area ℤ) → paint_answer l x ≡ answer_by (good_length l) (kept l) (good_area x) (room l x)
 unfolding paint_answer checked_of
 by_tests l x = go (good_length l) (kept l)
   where
-    go : (a b : Bool) → paint_of l x (cond a (cond b (C.Records (used l)) (C.Refused 9)) (C.Refused 5)) ≡ answer_by a b (good_area x) (room l x)
+    go : (a b : Bool) → paint_of l x (cond a (cond b (Ok (used l)) (Err R.BrokenList)) (Err R.WrongListLength)) ≡ answer_by a b (good_area x) (room l x)
     go true true = refl
     go true false = refl
     go false b = refl
 
-abbrev is_painted : PaintAnswer → Bool
-is_painted P.Painted = true
-is_painted (P.Refused n) = false
+abbrev is_painted : Result Unit Refusal → Bool
+is_painted (Ok u) = true
+is_painted (Err e) = false
 
-pub not_painted : {X : Type 0} {n : ℕ} → P.Refused n ≡ P.Painted → X
+pub not_painted : {X : Type 0} {r : Refusal} → ◌≡◌ {A = Result Unit Refusal} (Err r) (Ok tt) → X
 not_painted e = no_both (ap is_painted e) refl
 
 module _ (l : List ℤ) (x : Area ℤ) where
@@ -58,7 +58,7 @@ module _ (l : List ℤ) (x : Area ℤ) where
   pub why : Why l x (paint_answer l x)
   why = subst (Why l x) (sym (by_tests l x)) (tested (good_length l) (kept l) (good_area x) (room l x) refl refl refl refl)
 
-  pub because : {r : PaintAnswer} → Why l x r → paint_answer l x ≡ r
+  pub because : {r : Result Unit Refusal} → Why l x r → paint_answer l x ≡ r
   because (length_wrong p) = by_tests l x ∙ ap (λ a. answer_by a (kept l) (good_area x) (room l x)) p
   because (rules_broken p q) = by_tests l x ∙ (λ i. answer_by (p i) (q i) (good_area x) (room l x))
   because (area_bad p q r) = by_tests l x ∙ (λ i. answer_by (p i) (q i) (r i) (room l x))
@@ -72,10 +72,10 @@ module _ (l : List ℤ) (x : Area ℤ) where
     pub good : good_area x ≡ true
     pub fits : need ≤ length l
 
-  pub painted_why : paint_answer l x ≡ P.Painted → Accepted
+  pub painted_why : paint_answer l x ≡ Ok tt → Accepted
   painted_why e = go (why) e
     where
-      go : {r : PaintAnswer} → Why l x r → r ≡ P.Painted → Accepted
+      go : {r : Result Unit Refusal} → Why l x r → r ≡ Ok tt → Accepted
       go (length_wrong p) h = not_painted h
       go (rules_broken p q) h = not_painted h
       go (area_bad p q r) h = not_painted h
@@ -83,7 +83,7 @@ module _ (l : List ℤ) (x : Area ℤ) where
       go (is_room p q r s) h = record { long = p; keep = q; good = r; fits = s }
 
   -- what is left
-  pub left_of : (r : PaintAnswer) → paint_answer l x ≡ r → paint_left l x ≡ left_by l x r
+  pub left_of : (r : Result Unit Refusal) → paint_answer l x ≡ r → paint_left l x ≡ left_by l x r
   unfolding paint_left
   left_of r e = ap (left_by l x) e
 
@@ -139,9 +139,9 @@ module _ (l : List ℤ) (x : Area ℤ) (k : kept l ≡ true) (g : good_area x �
       omega (arith, ap length (fits_records f), f.long)
 
 -- the same of an area that was painted
-pub painted_fits : (l : List ℤ) (x : Area ℤ) → paint_answer l x ≡ P.Painted → (f : Fits l x) × (paint_left l x ≡ f.list)
+pub painted_fits : (l : List ℤ) (x : Area ℤ) → paint_answer l x ≡ Ok tt → (f : Fits l x) × (paint_left l x ≡ f.list)
 unfolding room_fits
-painted_fits l x e = let a = painted_why l x e in (room_fits l x a.keep a.good a.fits, left_of l x P.Painted e)
+painted_fits l x e = let a = painted_why l x e in (room_fits l x a.keep a.good a.fits, left_of l x (Ok tt) e)
 
 -- ---- a series of paints
 
@@ -159,9 +159,9 @@ none_is n =
 one_more : (n : ℕ) (l : List ℤ) (x : Area ℤ) (h : List (Area ℤ)) → Is n l h → Is n (paint_left l x) (noted (paint_answer l x) x h)
 one_more n l x h i = go (paint_answer l x) refl
   where
-    go : (r : PaintAnswer) → paint_answer l x ≡ r → Is n (paint_left l x) (noted r x h)
-    go (P.Refused m) e = subst (λ (y : List ℤ). Is n y h) (sym (left_of l x (P.Refused m) e)) i
-    go P.Painted e =
+    go : (r : Result Unit Refusal) → paint_answer l x ≡ r → Is n (paint_left l x) (noted r x h)
+    go (Err m) e = subst (λ (y : List ℤ). Is n y h) (sym (left_of l x (Err m) e)) i
+    go (Ok u) e =
         let (f, q) = painted_fits l x e in
         let j : Is n f.list (x ∷ h) = record {
           long = f.long ∙ i.long;

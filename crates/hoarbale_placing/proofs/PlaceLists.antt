@@ -1,4 +1,5 @@
 -- The lists of a run are those that painting its tiles' areas one after the other, through the list call, gives: each is good and finds room.
+use Rattle.std.specs.Prelude.{Ok}
 use mathlib.Core.Path.{◌≡◌, refl, sym, ap, ◌∙◌}
 use mathlib.Core.Bool.{true}
 use mathlib.Core.List.{List, [], ◌∷◌}
@@ -21,7 +22,6 @@ use Rattle.theory_walk.proofs.Cells.{history, history_good, Coloured, records_ho
 use Rattle.hoarbale_placing.specs.Calls.{LengthRight, areas}
 use Rattle.hoarbale_lists.specs.Lists.{paint_answer}
 use Rattle.hoarbale_placing.specs.Series.{series, accepted, is_room}
-use Rattle.hoarbale_lists.specs.declared.PaintAnswer.TheVariants as P
 use Rattle.hoarbale_placing.proofs.Outcome.{because, left_of, all_snoc, length_good_lem}
 use Rattle.hoarbale_placing.proofs.ListPromises.{rules_hold, painted_counts}
 
@@ -65,9 +65,9 @@ module _ (a : Axis) (n : ℕ) (long : LengthRight n) where
       let d : decode l ≡ rs = ap decode i.list ∙ holds_decode (records_hold a n ts gs ks (roomed r)) ∙ flat_recs n rs in
       let good : good_area x ≡ true = and_l (good_area x) (good_areas (history a ts)) (history_good a {ts = t ∷ ts} (more g gs) (more k ks)) in
       let room : 4 * length (paint_list x (decode l)) ≤ length l = omega (arith, h, u.1, ap (λ (y : List (Rec ℤ)). length (paint_list x y)) d) in
-      let e : paint_answer l x ≡ P.Painted = because l x (is_room (length_good_lem n l long.fours long.most u.1) u.0 good room) in
+      let e : paint_answer l x ≡ Ok tt = because l x (is_room (length_good_lem n l long.fours long.most u.1) u.0 good room) in
       record {
-        list = all_snoc xs (replicate n (pos 0)) x ∙ left_of l x P.Painted e ∙ (λ j. flat (u.1 j) (paint_list x (d j)));
+        list = all_snoc xs (replicate n (pos 0)) x ∙ left_of l x (Ok tt) e ∙ (λ j. flat (u.1 j) (paint_list x (d j)));
         all = painted_counts n xs x e ∙ ap (λ (y : List (Area ℤ)). x ∷ y) i.all;
       }
 

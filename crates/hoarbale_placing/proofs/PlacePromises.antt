@@ -1,10 +1,10 @@
 -- THE PROMISES about the placement call, each under the words of document 01 that it answers. c is what a call is given and x what comes back from it,
 -- as `place` ensures; q is its request.
+use Rattle.std.specs.Prelude.{Some, None, Option, Result, Err}
 use mathlib.Core.Path.{◌≡◌, refl, sym, ap, ◌∙◌, subst}
 use mathlib.Core.Logic.{◌↔◌, ◌⊎◌, inl, inr}
 use mathlib.Core.Bool.{Bool, true, false, cond}
 use mathlib.Core.List.{List, [], ◌∷◌, ◌++◌, map, append_assoc}
-use mathlib.Core.Option.{Option, none, some}
 use Prim.Native.Nat.{ℕ, zero, suc, ◌+◌, ◌*◌, ◌/◌, ◌%◌, ◌≤◌, ◌<◌}
 use native.Mathlib.Omega.{arith}
 use lib.Dec.{eqb, ltb}
@@ -34,12 +34,15 @@ use Rattle.theory_walk.proofs.Ruled.{full_number}
 use Rattle.theory_walk.proofs.Origins.{Origin, Before, fixed_takes, origin_mark, mark_bits}
 use Rattle.theory_walk.proofs.Promises as W
 use Rattle.placing_request.specs.Items.{item_at}
-use Rattle.placing_request.proofs.Items.{halves_at}
+use Rattle.placing_request.proofs.ItemLemmas.{halves_at}
 use Rattle.placing_run.specs.Placing as S
-use Rattle.placing_run.specs.declared.checked.Placing.TheVariants.{Placed, Refused}
-use Rattle.hoarbale_placing.specs.Placing.{placing_number, placing_index, placing_columns, placing_rows}
+use Rattle.placing_run.specs.declared.checked.Placed.{Placed}
+use Rattle.refusals.specs.declared.Refusal as D
+use Rattle.refusals.specs.Numbers.{number, index, numbered}
+use Rattle.hoarbale_placing.specs.Placing.{placing_columns, placing_rows, answered_with, RefusedBy}
 use Rattle.hoarbale_placing.specs.Calls.{Call, asked, Back, Meets, LengthRight, Broken, Passes, areas}
 use Rattle.hoarbale_placing.specs.Series.{series, accepted}
+use Rattle.hoarbale_placing.proofs.Placed.{broken_named, room_named}
 use Rattle.hoarbale_placing.proofs.Refusals.{checked_broken, broken_checked, checked_passes, passes_checked}
 use Rattle.hoarbale_placing.proofs.PlaceLists as R
 use Rattle.hoarbale_placing.proofs.PlaceLists.{Roomed, run_roomed, Painted, one_by_one}
@@ -59,19 +62,19 @@ one_outcome c x y m n =
 -- ---- how a request ends: the checks refuse it, or there is no room, or it is answered
 
 data Ends (q : Request) : Outcome → Type 0 where
-  by_checks : {n i : ℕ} → checked q ≡ some (record { number = n; index = i }) → Ends q (refused n i)
-  by_room : {n i : ℕ} → checked q ≡ none → run_of q ≡ stopped n i → Ends q (refused n i)
-  by_board : (b : Board) → checked q ≡ none → run_of q ≡ going b → {a rs cs : List ℤ} → a ≡ answers_of (up_to (item_count q) 0) b.tiles → Ends q (answered a b.counts rs cs)
+  by_checks : {n i : ℕ} → checked q ≡ Some (record { number = n; index = i }) → Ends q (refused n i)
+  by_room : {n i : ℕ} → checked q ≡ None → run_of q ≡ stopped n i → Ends q (refused n i)
+  by_board : (b : Board) → checked q ≡ None → run_of q ≡ going b → {a rs cs : List ℤ} → a ≡ answers_of (up_to (item_count q) 0) b.tiles → Ends q (answered a b.counts rs cs)
 
 ends : (q : Request) → Ends q (outcome q)
 ends q = go (checked q) refl (run_of q) refl
   where
     go : (o : Option Refusal) → checked q ≡ o → (u : Run) → run_of q ≡ u → Ends q (outcome q)
-    go (some y) e u f = subst (Ends q) (sym (W.checks_refuse q y.number y.index e)) (by_checks e)
-    go none e (stopped n i) f = subst (Ends q) (sym (W.room_refuses q n i e f)) (by_room e f)
-    go none e (going b) f = subst (Ends q) (sym (W.is_answered q b e f)) (by_board b e f refl)
+    go (Some y) e u f = subst (Ends q) (sym (W.checks_refuse q y.number y.index e)) (by_checks e)
+    go None e (stopped n i) f = subst (Ends q) (sym (W.room_refuses q n i e f)) (by_room e f)
+    go None e (going b) f = subst (Ends q) (sym (W.is_answered q b e f)) (by_board b e f refl)
 
-not_placed : {A : Type 0} {n i : ℕ} {k l : TrackCounts} → Placed k l ≡ Refused n i → A
+not_placed : {A : Type 0} {r : D.Refusal} {k l : TrackCounts} → answered_with k l ≡ Err r → A
 not_placed e = let z : ◌≡◌ {A = ℕ} 0 1 = cc in absurd (omega arith)
 
 -- ---- the answer buffer
@@ -169,45 +172,60 @@ module _ (c : Call) (x : Back) (meets : Meets c x) where
   abbrev pub NoRoom : ℕ → ℕ → Type 0
   NoRoom n i = Full (setting_of q) (growth_of q) (queue_of q) (start_of q) n i
 
-  refused_by : {o : Outcome} {n i : ℕ} → Ends q o → S.placing_of o ≡ Refused n i → (checked q ≡ some (record { number = n; index = i })) ⊎ ((checked q ≡ none) × (run_of q ≡ stopped n i))
-  refused_by (by_checks e) f = let p = ap placing_number f in let r = ap placing_index f in inl (e ∙ (λ t. some (record { number = p t; index = r t })))
-  refused_by (by_room e g) f = let p = ap placing_number f in let r = ap placing_index f in inr (e, g ∙ (λ t. stopped (p t) (r t)))
-  refused_by (by_board b e g h) f = not_placed f
-
-  why : {n i : ℕ} → x.result ≡ Refused n i → (checked q ≡ some (record { number = n; index = i })) ⊎ ((checked q ≡ none) × (run_of q ≡ stopped n i))
-  why e = refused_by (ends q) (sym meets.result ∙ e)
-
-  room_number : {n i : ℕ} → checked q ≡ none → run_of q ≡ stopped n i → 6 < n
+  room_number : {n i : ℕ} → checked q ≡ None → run_of q ≡ stopped n i → 6 < n
   room_number {n} {i} e f = go (full_number ((W.refused_full q e n i).0 f))
     where
       go : (n ≡ 7) ⊎ (n ≡ 8) → 6 < n
       go (inl h) = omega arith
       go (inr h) = omega arith
 
-  -- 1 to 6 are "Given exactly when" the first of their reasons holds, "in that order",
-  pub refused_first : (n i : ℕ) → ((x.result ≡ Refused n i) × (n ≤ 6)) ↔ Broken q n i
-  refused_first n i = ((λ h. go h.1 (why h.0)), (λ b. (meets.result ∙ ap S.placing_of (W.checks_refuse q n i (broken_checked q b)), checked_low q (record { number = n; index = i }) (broken_checked q b))))
+  -- whoever is refused so, the checks or the walk refuse it so
+  same_refusal : {m j n i : ℕ} → (number (numbered m j) ≡ m) × (index (numbered m j) ≡ j) → RefusedBy (Err (numbered m j)) n i → (m ≡ n) × (j ≡ i)
+  same_refusal h f =
+      let e = ap number (err_is f.is) in
+      let g = ap index (err_is f.is) in
+      (sym h.0 ∙ e ∙ f.number_is, sym h.1 ∙ g ∙ f.index_is)
     where
-      go : n ≤ 6 → (checked q ≡ some (record { number = n; index = i })) ⊎ ((checked q ≡ none) × (run_of q ≡ stopped n i)) → Broken q n i
+      err_is : {a b : D.Refusal} → ◌≡◌ {A = Result Placed D.Refusal} (Err a) (Err b) → a ≡ b
+      err_is e = cc
+
+  refused_by : {o : Outcome} {n i : ℕ} → Ends q o → RefusedBy (S.placing_of o) n i → (checked q ≡ Some (record { number = n; index = i })) ⊎ ((checked q ≡ None) × (run_of q ≡ stopped n i))
+  refused_by (by_checks {n = m} {i = j} e) f = let p = same_refusal (broken_named (checked_broken q m j e)) f in inl (e ∙ (λ t. Some (record { number = p.0 t; index = p.1 t })))
+  refused_by (by_room {n = m} {i = j} e g) f = let p = same_refusal (room_named (full_number ((W.refused_full q e m j).0 g))) f in inr (e, g ∙ (λ t. stopped (p.0 t) (p.1 t)))
+  refused_by (by_board b e g h) f = not_placed f.is
+
+  why : {n i : ℕ} → RefusedBy x.result n i → (checked q ≡ Some (record { number = n; index = i })) ⊎ ((checked q ≡ None) × (run_of q ≡ stopped n i))
+  why f = refused_by (ends q) (record { refusal = f.refusal; is = sym meets.result ∙ f.is; named = f.named; number_is = f.number_is; index_is = f.index_is })
+
+  -- 1 to 6 are "Given exactly when" the first of their reasons holds, "in that order",
+  pub refused_first : (n i : ℕ) → ((RefusedBy x.result n i) × (n ≤ 6)) ↔ Broken q n i
+  refused_first n i = ((λ h. go h.1 (why h.0)), (λ b. (record { refusal = numbered n i; is = meets.result ∙ ap S.placing_of (W.checks_refuse q n i (broken_checked q b)); named = refl; number_is = (broken_named b).0; index_is = (broken_named b).1 }, checked_low q (record { number = n; index = i }) (broken_checked q b))))
+    where
+      go : n ≤ 6 → (checked q ≡ Some (record { number = n; index = i })) ⊎ ((checked q ≡ None) × (run_of q ≡ stopped n i)) → Broken q n i
       go h (inl e) = checked_broken q n i e
       go h (inr (e, f)) = absurd (let k = room_number e f in let z : ⊥ = omega arith in z)
 
   -- and leave "all unchanged"
-  pub refusal_unchanged : (n i : ℕ) → x.result ≡ Refused n i → n ≤ 6 → (x.answers ≡ c.answers) × (x.row_list ≡ c.row_list) × (x.column_list ≡ c.column_list)
+  pub refusal_unchanged : (n i : ℕ) → RefusedBy x.result n i → n ≤ 6 → (x.answers ≡ c.answers) × (x.row_list ≡ c.row_list) × (x.column_list ≡ c.column_list)
   refusal_unchanged n i e h =
       let l = W.refusal_unchanged q (record { number = n; index = i }) (broken_checked q ((refused_first n i).0 (e, h))) in
       (meets.answers ∙ l.in_answers c.answers, meets.row_list ∙ l.in_rows c.row_list, meets.column_list ∙ l.in_columns c.column_list)
 
+  room_refused : {n i : ℕ} → checked q ≡ None → run_of q ≡ stopped n i → RefusedBy x.result n i
+  room_refused {n} {i} p f =
+      let h = room_named (full_number ((W.refused_full q p n i).0 f)) in
+      record { refusal = numbered n i; is = meets.result ∙ ap S.placing_of (W.room_refuses q n i p f); named = refl; number_is = h.0; index_is = h.1 }
+
   -- 7 and 8 are given exactly when the request passes and an item has no room, "7 before 8, with that item's index"
-  pub refused_room : (n i : ℕ) → ((x.result ≡ Refused n i) × (6 < n)) ↔ (Passes q × NoRoom n i)
-  refused_room n i = ((λ h. go h.1 (why h.0)), (λ h. let p = passes_checked q h.0 in let f = (W.refused_full q p n i).1 h.1 in (meets.result ∙ ap S.placing_of (W.room_refuses q n i p f), room_number p f)))
+  pub refused_room : (n i : ℕ) → ((RefusedBy x.result n i) × (6 < n)) ↔ (Passes q × NoRoom n i)
+  refused_room n i = ((λ h. go h.1 (why h.0)), (λ h. let p = passes_checked q h.0 in let f = (W.refused_full q p n i).1 h.1 in (room_refused p f, room_number p f)))
     where
-      go : 6 < n → (checked q ≡ some (record { number = n; index = i })) ⊎ ((checked q ≡ none) × (run_of q ≡ stopped n i)) → Passes q × NoRoom n i
+      go : 6 < n → (checked q ≡ Some (record { number = n; index = i })) ⊎ ((checked q ≡ None) × (run_of q ≡ stopped n i)) → Passes q × NoRoom n i
       go h (inl e) = absurd (let k = checked_low q (record { number = n; index = i }) e in let z : ⊥ = omega arith in z)
       go h (inr (e, f)) = (checked_passes q e, (W.refused_full q e n i).0 f)
 
   -- "and then the answer places of all items and both lists are zero"
-  pub room_zero : (n i : ℕ) → x.result ≡ Refused n i → 6 < n
+  pub room_zero : (n i : ℕ) → RefusedBy x.result n i → 6 < n
       → (x.answers ≡ replicate (5 * item_count q) (pos 0) ++ drop (5 * item_count q) c.answers) × (x.row_list ≡ replicate (length c.row_list) (pos 0)) × (x.column_list ≡ replicate (length c.column_list) (pos 0))
   room_zero n i e h =
       let (p, f) = (refused_room n i).0 (e, h) in
@@ -216,7 +234,7 @@ module _ (c : Call) (x : Back) (meets : Meets c x) where
       (meets.answers ∙ l.in_answers c.answers, meets.row_list ∙ l.in_rows c.row_list, meets.column_list ∙ l.in_columns c.column_list)
 
   -- "a request that fits is answered", so that refusing everything is no answer
-  pub answered_if : Passes q → ((n i : ℕ) → NoRoom n i → ⊥) → (k : TrackCounts) × (l : TrackCounts) × (x.result ≡ Placed k l)
+  pub answered_if : Passes q → ((n i : ℕ) → NoRoom n i → ⊥) → (k : TrackCounts) × (l : TrackCounts) × (x.result ≡ answered_with k l)
   answered_if p room =
       let e = passes_checked q p in
       let (b, f) = W.fits_answered q e room in
@@ -228,14 +246,14 @@ module _ (c : Call) (x : Back) (meets : Meets c x) where
 
   -- ---- a call that is answered
 
-  module _ (k l : TrackCounts) (placed : x.result ≡ Placed k l) where
+  module _ (k l : TrackCounts) (placed : x.result ≡ answered_with k l) where
     -- it passed the checks, and its run ends with a board: the tiles, newest first, and the counts
     pub record Ran : Type 0 where
       pub board : Board
-      pub passed : checked q ≡ none
+      pub passed : checked q ≡ None
       pub run : run_of q ≡ going board
 
-    placed_by : {o : Outcome} → Ends q o → S.placing_of o ≡ Placed k l → Ran
+    placed_by : {o : Outcome} → Ends q o → S.placing_of o ≡ answered_with k l → Ran
     placed_by (by_checks e) f = not_placed (sym f)
     placed_by (by_room e g) f = not_placed (sym f)
     placed_by (by_board b e g h) f = record { board = b; passed = e; run = g }
@@ -254,7 +272,7 @@ module _ (c : Call) (x : Back) (meets : Meets c x) where
 
     -- and no other than one that fits is answered
     pub answered_only : Passes q × ((n i : ℕ) → NoRoom n i → ⊥)
-    answered_only = (checked_passes q ran.passed, (λ n i f. not_placed (sym placed ∙ ((refused_room n i).1 (checked_passes q ran.passed, f)).0)))
+    answered_only = (checked_passes q ran.passed, (λ n i f. not_placed (sym placed ∙ ((refused_room n i).1 (checked_passes q ran.passed, f)).0.is)))
 
     -- the steps one after the other, items in document order, each item settled by its step's rule on the board as it then stands: the cursor and the
     -- counts are those that the items before it left
@@ -365,7 +383,7 @@ module _ (c : Call) (x : Back) (meets : Meets c x) where
 
     pub counts_are : counts ≡ b.counts
     counts_are =
-        let e : Placed k l ≡ Placed b.counts.columns b.counts.rows = sym placed ∙ meets.result ∙ ap S.placing_of is in
+        let e : answered_with k l ≡ answered_with b.counts.columns b.counts.rows = sym placed ∙ meets.result ∙ ap S.placing_of is in
         (λ t. record { columns = ap placing_columns e t; rows = ap placing_rows e t })
 
     -- they cover the given ones and every tile, and any that do are no less

@@ -1,9 +1,9 @@
 -- The checks 1 to 6 of a request in plain terms: a number is given exactly for its reason.
+use Rattle.std.specs.Prelude.{Some, None, Option}
 use mathlib.Core.Path.{◌≡◌, refl, sym, ap, ◌∙◌, subst}
 use mathlib.Core.Bool.{Bool, true, false, not, cond, ◌&&◌, ◌||◌}
 use mathlib.Core.List.{List, ◌∷◌}
 use mathlib.Core.Logic.{◌⊎◌, inl, inr}
-use mathlib.Core.Option.{Option, none, some}
 use Prim.Native.Nat.{ℕ, zero, suc, ◌+◌, ◌*◌, ◌/◌, ◌<◌, ◌%◌}
 use native.Mathlib.Omega.{arith}
 use borrow.Author.Tests.{ltb-true, ltb-false, leb-true, eqb-true, eqb-false, lt-ltb, le-ltb, le-leb, eq-eqb}
@@ -20,8 +20,7 @@ use Rattle.theory_walk.specs.Request.{Request, Refusal, Half, good_item, no, bad
 use Rattle.theory_walk.proofs.Tests.{clash, and_true, or_true, or_false, not-true, not-false}
 use Rattle.theory_walk.proofs.Checks as W
 use Rattle.placing_request.specs.Items.{item_at}
-use Rattle.placing_request.proofs.Items.{halves_at, bad_pass, bad_here, bad_none, good_at}
-use Rattle.placing_request.proofs.Ladder.{checked_ladder}
+use Rattle.placing_request.proofs.ItemLemmas.{halves_at, bad_pass, bad_here, bad_none, good_at}
 use Rattle.hoarbale_placing.specs.Calls.{ItemsRight, CountsRight, LengthRight, ListsRight, FirstBad, Broken, flow_unknown, items_wrong, counts_outside, answers_short, length_wrong, item_bad, Passes}
 
 -- ---- a test that is false exactly where X holds
@@ -123,7 +122,7 @@ found d (W.bad_later {x} {xs} e f) =
     go p f zero h = e
     go p f (suc j) h = f j (omega arith)
 
-first_bad : (q : Request) (i : ℕ) → bad_from 0 (halves q.items) ≡ some i → FirstBad q i
+first_bad : (q : Request) (i : ℕ) → bad_from 0 (halves q.items) ≡ Some i → FirstBad q i
 first_bad q i e =
     let d = item_at q.items i in
     let r = found d (W.bad_first 0 (halves q.items) i e) in
@@ -135,32 +134,36 @@ first_bad q i e =
       before = λ j g. ap good_item (sym (halves_at q.items j d (omega arith))) ∙ r.before j (omega arith);
     }
 
-bad_from_lem : (l : List ℤ) (i m j : ℕ) → j + m ≡ i → i < length l / 6 → good_item (item_at l i) ≡ false → ((k : ℕ) → k < i → good_item (item_at l k) ≡ true) → bad_from j (drop j (halves l)) ≡ some i
+bad_from_lem : (l : List ℤ) (i m j : ℕ) → j + m ≡ i → i < length l / 6 → good_item (item_at l i) ≡ false → ((k : ℕ) → k < i → good_item (item_at l k) ≡ true) → bad_from j (drop j (halves l)) ≡ Some i
 bad_from_lem l i zero j e h b g = let p : j ≡ i = omega arith in rw p (bad_here l i h b)
 bad_from_lem l i (suc m) j e h b g = bad_pass l j (omega arith) (g j (omega arith)) ∙ bad_from_lem l i m (j + 1) (omega arith) h b g
 
-none_from : (l : List ℤ) (m j : ℕ) → j + m ≡ length l / 6 → ((k : ℕ) → k < length l / 6 → good_item (item_at l k) ≡ true) → bad_from j (drop j (halves l)) ≡ none
+none_from : (l : List ℤ) (m j : ℕ) → j + m ≡ length l / 6 → ((k : ℕ) → k < length l / 6 → good_item (item_at l k) ≡ true) → bad_from j (drop j (halves l)) ≡ None
 none_from l zero j e g = bad_none l j (omega arith)
 none_from l (suc m) j e g = bad_pass l j (omega arith) (g j (omega arith)) ∙ none_from l m (j + 1) (omega arith) g
 
 -- ---- the ladder
 
 abbrev steps : Bool → Bool → Bool → Bool → Bool → Option ℕ → Option Refusal
-steps a b c d e o = cond a (no 1 0) (cond b (no 2 0) (cond c (no 3 0) (cond d (no 4 0) (cond e (no 5 0) (or_else o (λ i. no 6 i) none)))))
+steps a b c d e o = cond a (no 1 0) (cond b (no 2 0) (cond c (no 3 0) (cond d (no 4 0) (cond e (no 5 0) (or_else o (λ i. no 6 i) None)))))
 
-no_some : {A : Type 0} {x : Refusal} → some x ≡ none → A
+checked_ladder : (q : Request) → checked q ≡ steps (t₁ q) (t₂ q) (t₃ q) (t₄ q) (t₅ q) (t₆ q)
+unfolding checked
+checked_ladder q = refl
+
+no_some : {A : Type 0} {x : Refusal} → Some x ≡ None → A
 no_some e = let z : ◌≡◌ {A = ℕ} 0 1 = cc in absurd (omega arith)
 
 -- "Given exactly when", 1 to 6
-pub checked_broken : (q : Request) (n i : ℕ) → checked q ≡ some (record { number = n; index = i }) → Broken q n i
+pub checked_broken : (q : Request) (n i : ℕ) → checked q ≡ Some (record { number = n; index = i }) → Broken q n i
 checked_broken q n i e =
     go (t₁ q) refl (t₂ q) refl (t₃ q) refl (t₄ q) refl (t₅ q) refl (t₆ q) refl (sym (checked_ladder q) ∙ e)
   where
-    same : {x : Refusal} → some x ≡ some (record { number = n; index = i }) → Broken q x.number x.index → Broken q n i
+    same : {x : Refusal} → Some x ≡ Some (record { number = n; index = i }) → Broken q x.number x.index → Broken q n i
     same {x} h b = let z : x ≡ record { number = n; index = i } = cc in subst (λ (y : Refusal). Broken q y.number y.index) z b
 
     go : (a : Bool) → t₁ q ≡ a → (b : Bool) → t₂ q ≡ b → (c : Bool) → t₃ q ≡ c → (d : Bool) → t₄ q ≡ d → (f : Bool) → t₅ q ≡ f → (o : Option ℕ) → t₆ q ≡ o
-        → steps a b c d f o ≡ some (record { number = n; index = i }) → Broken q n i
+        → steps a b c d f o ≡ Some (record { number = n; index = i }) → Broken q n i
     go true p b r c s d t f u o v h = same h (flow_unknown (ltb-true 3 q.flow p))
     go false p true r c s d t f u o v h = same h (items_wrong (ltb-false 3 q.flow p) ((items_tell q).wrong r))
     go false p false r true s d t f u o v h = same h (counts_outside (ltb-false 3 q.flow p) ((items_tell q).right r) ((counts_tell q).wrong s))
@@ -168,12 +171,12 @@ checked_broken q n i e =
         same h (answers_short (ltb-false 3 q.flow p) ((items_tell q).right r) ((counts_tell q).right s) (ltb-true q.answers (5 * item_count q) t))
     go false p false r false s false t true u o v h =
         same h (length_wrong (ltb-false 3 q.flow p) ((items_tell q).right r) ((counts_tell q).right s) (ltb-false q.answers (5 * item_count q) t) ((lists_tell q).wrong u))
-    go false p false r false s false t false u (some j) v h =
+    go false p false r false s false t false u (Some j) v h =
         same h
         (item_bad {i = j} (ltb-false 3 q.flow p) ((items_tell q).right r) ((counts_tell q).right s) (ltb-false q.answers (5 * item_count q) t) ((lists_tell q).right u) (first_bad q j v))
-    go false p false r false s false t false u none v h = no_some (sym h)
+    go false p false r false s false t false u None v h = no_some (sym h)
 
-pub broken_checked : (q : Request) {n i : ℕ} → Broken q n i → checked q ≡ some (record { number = n; index = i })
+pub broken_checked : (q : Request) {n i : ℕ} → Broken q n i → checked q ≡ Some (record { number = n; index = i })
 broken_checked q (flow_unknown a) = checked_ladder q ∙ (λ t. steps (lt-ltb 3 q.flow a t) (t₂ q) (t₃ q) (t₄ q) (t₅ q) (t₆ q))
 broken_checked q (items_wrong a b) = checked_ladder q ∙ (λ t. steps (le-ltb 3 q.flow a t) (is_wrong (items_tell q) b t) (t₃ q) (t₄ q) (t₅ q) (t₆ q))
 broken_checked q (counts_outside a b c) =
@@ -189,17 +192,17 @@ broken_checked q (item_bad {i} a b c d e f) =
     ∙ (λ t. steps (le-ltb 3 q.flow a t) (is_right (items_tell q) b t) (is_right (counts_tell q) c t) (le-ltb q.answers (5 * item_count q) d t) (is_right (lists_tell q) e t) (o t))
 
 -- and none of them
-pub checked_passes : (q : Request) → checked q ≡ none → Passes q
+pub checked_passes : (q : Request) → checked q ≡ None → Passes q
 checked_passes q e = go (t₁ q) refl (t₂ q) refl (t₃ q) refl (t₄ q) refl (t₅ q) refl (t₆ q) refl (sym (checked_ladder q) ∙ e)
   where
-    go : (a : Bool) → t₁ q ≡ a → (b : Bool) → t₂ q ≡ b → (c : Bool) → t₃ q ≡ c → (d : Bool) → t₄ q ≡ d → (f : Bool) → t₅ q ≡ f → (o : Option ℕ) → t₆ q ≡ o → steps a b c d f o ≡ none → Passes q
+    go : (a : Bool) → t₁ q ≡ a → (b : Bool) → t₂ q ≡ b → (c : Bool) → t₃ q ≡ c → (d : Bool) → t₄ q ≡ d → (f : Bool) → t₅ q ≡ f → (o : Option ℕ) → t₆ q ≡ o → steps a b c d f o ≡ None → Passes q
     go true p b r c s d t f u o v h = no_some h
     go false p true r c s d t f u o v h = no_some h
     go false p false r true s d t f u o v h = no_some h
     go false p false r false s true t f u o v h = no_some h
     go false p false r false s false t true u o v h = no_some h
-    go false p false r false s false t false u (some j) v h = no_some h
-    go false p false r false s false t false u none v h =
+    go false p false r false s false t false u (Some j) v h = no_some h
+    go false p false r false s false t false u None v h =
         record {
           flow = ltb-false 3 q.flow p;
           items = (items_tell q).right r;
@@ -209,7 +212,7 @@ checked_passes q e = go (t₁ q) refl (t₂ q) refl (t₃ q) refl (t₄ q) refl 
           each = λ i g. good_at q.items i v g;
         }
 
-pub passes_checked : (q : Request) → Passes q → checked q ≡ none
+pub passes_checked : (q : Request) → Passes q → checked q ≡ None
 passes_checked q h =
     let o = none_from q.items (item_count q) 0 (omega arith) h.each in
     checked_ladder q

@@ -1,5 +1,5 @@
 -- A placement call as a whole: what it is given, what comes back, and what document 01's refusals 1 to 6 say of a request, in plain terms.
-use Rattle.std.specs.Prelude.{◌≡◌, true, false, List, [], ◌∷◌, ◌++◌, ℕ, ◌*◌, ◌≤◌, ◌<◌, ◌%◌, length, ℤ}
+use Rattle.std.specs.Prelude.{◌≡◌, true, false, List, [], ◌∷◌, ◌++◌, ℕ, ◌*◌, ◌≤◌, ◌<◌, ◌%◌, length, ℤ, Result}
 use Rattle.theory_intervals.specs.Records.{Area}
 use Rattle.grid_track_counts.specs.declared.TrackCounts.{TrackCounts}
 use Rattle.grid_track_counts.specs.Counts.{Sound}
@@ -8,7 +8,8 @@ use Rattle.theory_walk.specs.Walk.{Tile, area_on}
 use Rattle.theory_walk.specs.Request.{Request, good_item, item_count, outcome, answers_left, rows_left, columns_left}
 use Rattle.placing_request.specs.Items.{item_at, request_of}
 use Rattle.placing_run.specs.Placing.{placing_of}
-use Rattle.placing_run.specs.declared.checked.Placing.{Placing}
+use Rattle.refusals.specs.declared.Refusal.{Refusal}
+use Rattle.placing_run.specs.declared.checked.Placed.{Placed}
 
 -- the arguments; of the lent buffers, what they hold at entry
 pub record Call : Type 0 where
@@ -25,7 +26,7 @@ asked c = request_of c.flow c.columns c.rows c.items (length c.answers) (length 
 
 -- the result, and what the lent buffers hold at exit
 pub record Back : Type 0 where
-  pub result : Placing
+  pub result : Result Placed Refusal
   pub answers : List ℤ
   pub row_list : List ℤ
   pub column_list : List ℤ

@@ -7,8 +7,9 @@ ghost use Rattle.placing_request.specs.Items.{request_of};
 ghost use Rattle.placing_run.specs.Placing.{placing_of};
 
 use grid_track_counts::TrackCounts;
-use placing_request::checks::{Check, check_request};
-use placing_run::checked::{Placing, place_checked};
+use placing_request::checks::check_request;
+use placing_run::checked::{Placed, place_checked};
+use refusals::Refusal;
 
 // Places the items: the checks 1 to 6 change no buffer, and then both lists are cleared and the items placed.
 pub fn place(
@@ -19,13 +20,13 @@ pub fn place(
     answers: &mut [i16],
     row_list: &mut [i16],
     column_list: &mut [i16],
-) -> Placing
+) -> Result<Placed, Refusal>
     ensures value { result ≡ placing_of (outcome (request_of flow columns rows items.now (length answers.old) (length column_list.old) (length row_list.old))) }
     ensures answers_after { answers.new ≡ answers_left (request_of flow columns rows items.now (length answers.old) (length column_list.old) (length row_list.old)) answers.old (outcome (request_of flow columns rows items.now (length answers.old) (length column_list.old) (length row_list.old))) }
     ensures row_list_after { row_list.new ≡ rows_left (request_of flow columns rows items.now (length answers.old) (length column_list.old) (length row_list.old)) row_list.old (outcome (request_of flow columns rows items.now (length answers.old) (length column_list.old) (length row_list.old))) }
     ensures column_list_after { column_list.new ≡ columns_left (request_of flow columns rows items.now (length answers.old) (length column_list.old) (length row_list.old)) column_list.old (outcome (request_of flow columns rows items.now (length answers.old) (length column_list.old) (length row_list.old))) }
 {
-    let check = check_request(
+    let flow = check_request(
         flow,
         columns,
         rows,
@@ -33,9 +34,6 @@ pub fn place(
         answers.len(),
         column_list.len(),
         row_list.len(),
-    );
-    match check {
-        Check::Refused(number, i) => Placing::Refused(number, i),
-        Check::Passed => place_checked(flow, columns, rows, items, answers, row_list, column_list),
-    }
+    )?;
+    place_checked(flow, columns, rows, items, answers, row_list, column_list)
 }

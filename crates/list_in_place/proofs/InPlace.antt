@@ -24,7 +24,8 @@ use Rattle.list_moves.specs.Fours.{Four, padded, fours, Laid}
 use Rattle.list_moves.proofs.Parts.{drop_replicate}
 use Rattle.list_moves.proofs.Fours.{enc_fours, length_fours, laid_is, wiped, fours_enc, laid_padded, length_padded}
 use Rattle.list_pieces.specs.Reach.{runs, Stored, Reaches, Pieced, OnTrack, Apart, four, before_late, after_early}
-use Rattle.list_pieces.specs.Passes.{Good, Above, Gapped, held, InPlace, Ready, Swept, Tail}
+use Rattle.list_areas.proofs.Good.{Good}
+use Rattle.list_pieces.specs.Passes.{Above, Gapped, held, InPlace, Ready, Swept, Tail}
 use Rattle.list_pieces.proofs.Above.{above_append, above_late, late_above, all_on_above, stored_append, stored_l, stored_r}
 use Rattle.list_pieces.proofs.Bits.{ζ}
 use Rattle.list_sweeps.proofs.Count.{halves, suc_of, length_runs}
@@ -43,12 +44,6 @@ module _ {a b s t : ℤ} {l : List ℤ} {r used : ℕ} (g : Gapped l r r used) (
 
   f : Found l r t a b σ (fours (used - r) (drop (4 * r) l)) i j
   f = s_found true g good late q
-
-  pub p_low : i ≤ j
-  p_low = f.low
-
-  pub p_high : j ≤ used
-  p_high = omega (arith, f.high, g.high)
 
   -- at most two records more
   pub p_few : n ≤ j - i + 2
@@ -82,16 +77,16 @@ module _ {a b s t : ℤ} {l : List ℤ} {r used : ℕ} (g : Gapped l r r used) (
     in_x = omega (arith, x_long, room)
 
     in_put : 4 * n ≤ length put
-    in_put = omega (arith, q.few, q.long)
+    in_put = omega (arith, q.long)
 
     -- and the records that the others become were stored
-    module _ (y : List ℤ) (e' : y ≡ paste x (4 * i) put (4 * n)) where
+    module _ (y : List ℤ) (e' : y ≡ paste x (4 * i) put (length put)) where
       pub y_long : length y ≡ length l
-      y_long = m_long x put y i n (4 * i) (4 * n) refl refl in_x in_put e' ∙ x_long
+      y_long = m_long x put y i n (4 * i) (length put) refl q.long in_x in_put e' ∙ x_long
 
       y_pre : fours i y ≡ fours i l
       y_pre =
-          m_pre x put y i n (4 * i) (4 * n) refl refl in_x in_put e' i (omega arith)
+          m_pre x put y i n (4 * i) (length put) refl q.long in_x in_put e' i (omega arith)
           ∙ m_pre l (drop (4 * j) l) x (i + n) (used - j) at (4 * used - 4 * j) ea em room in_part e i (omega arith)
 
       x_tail : fours (used - j) (drop (4 * (i + n)) x) ≡ tail
@@ -103,12 +98,12 @@ module _ {a b s t : ℤ} {l : List ℤ} {r used : ℕ} (g : Gapped l r r used) (
       y_post : fours (N - i) (drop (4 * i) y) ≡ fours n put ++ tail
       y_post =
           let h : N - i ≡ n + (used - j) = omega arith in
-          (λ k. fours (h k) (drop (4 * i) y)) ∙ m_post x put y i n (4 * i) (4 * n) refl refl in_x in_put e' (used - j)
+          (λ k. fours (h k) (drop (4 * i) y)) ∙ m_post x put y i n (4 * i) (length put) refl q.long in_x in_put e' (used - j)
           ∙ ap (λ (z : List Four). fours n put ++ z) x_tail
 
       pub y_past : (z : ℕ) → N ≤ z → drop (4 * z) y ≡ drop (4 * z) l
       y_past z h =
-          m_past x put y i n (4 * i) (4 * n) refl refl in_x in_put e' z (omega arith)
+          m_past x put y i n (4 * i) (length put) refl q.long in_x in_put e' z (omega arith)
           ∙ m_past l (drop (4 * j) l) x (i + n) (used - j) at (4 * used - 4 * j) ea em room in_part e z (omega arith)
 
       zeros_l : (k : ℕ) → used ≤ k → drop (4 * k) l ≡ replicate (length l - 4 * k) (pos 0)
@@ -185,16 +180,18 @@ apart_on l r t a b s p f q = rw (f, p) q
 
 -- ---- the records that are reached become one
 
--- its numbers as they are stored, and eight more that are not
+-- its numbers as they are stored
 abbrev pub stored_one : ℤ → ℤ → ℤ → ℤ → List ℤ
-stored_one t c d s = ζ t ∷ ζ c ∷ ζ d ∷ ζ s ∷ replicate 8 (pos 0)
+stored_one t c d s = ζ t ∷ ζ c ∷ ζ d ∷ ζ s ∷ []
 
-pub one_reaches : {l : List ℤ} {r : ℕ} {t a b s c d : ℤ} {i j : ℕ} → SFits w16 t → SFits w16 s → SFits w16 c → SFits w16 d → j ≡ before_late l t b (of_z w16 s) r → i ≡ after_early l t a (of_z w16 s) j
+pub one_reaches : {l : List ℤ} {r : ℕ} {t a b s c d : ℤ} {i j : ℕ} → SFits w16 t → SFits w16 s → SFits w16 c → SFits w16 d → i ≤ j → j ≤ r → j ≡ before_late l t b (of_z w16 s) r → i ≡ after_early l t a (of_z w16 s) j
     → Pieced t a b (of_z w16 s) (fours (j - i) (drop (4 * i) l)) (four t c d s ∷ []) → Reaches l r t a b (of_z w16 s) i j 1 (stored_one t c d s)
-one_reaches {l} {r} {t} {a} {b} {s} {c} {d} {i} {j} T S C D p f q =
+one_reaches {l} {r} {t} {a} {b} {s} {c} {d} {i} {j} T S C D low high p is q =
     record {
       past = p;
-      first = f;
+      first = is;
+      low = low;
+      high = high;
       few = omega arith;
       long = refl;
       become = subst (Pieced t a b (of_z w16 s) (fours (j - i) (drop (4 * i) l))) (sym (λ k. four (to_z-of_z T k) (to_z-of_z C k) (to_z-of_z D k) (to_z-of_z S k) ∷ [])) q;
@@ -236,9 +233,6 @@ module _ {l : List ℤ} {used : ℕ} {t₁ t₂ a b s : ℤ} {list : List ℤ} {
   module _ (T : ℤ) (e : T ≡ t -ℤ pos 1) (z : lt_z t₁ t ≡ true) where
     pub t_late : Late lx (pt T b) (of_z w16 s) (runs (fours (n - r) (drop (4 * r) list)))
     t_late = above_late T b (of_z w16 s) (omega signed) v.above
-
-    pub t_room : 4 * (n + 2) ≤ length list
-    t_room = omega (signed, v.room)
 
     pub t_next : (x : List ℤ) (r' n' : ℕ) → InPlace a b s T list r n x r' n' → TInv l used t₁ t₂ a b s x r' n' T
     t_next x r' n' q =

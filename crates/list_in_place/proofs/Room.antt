@@ -15,7 +15,8 @@ use Rattle.theory_intervals.specs.Paint.{Point, pt, run}
 use Rattle.theory_intervals.specs.OverInt.{span, upto}
 use Rattle.theory_intervals.specs.Cut.{lrem, lstart, rtail, rend, new, lx, Rn, P, H, sw}
 use Rattle.theory_intervals.proofs.Tracks.{K, one, sw_all, PT-keep}
-use Rattle.list_pieces.specs.Passes.{Good, Roomy}
+use Rattle.list_areas.proofs.Good.{Good}
+use Rattle.list_pieces.specs.Passes.{Roomy}
 
 -- what is left before the painted run, and behind it, is one run at most
 few_cond : (a b : Bool) (r : Rn) → length (cond a (cond b [] (r ∷ [])) []) ≤ 1

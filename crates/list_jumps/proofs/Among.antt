@@ -1,5 +1,7 @@
 -- The collision jump as the largest end: on a track no record that overlaps ends later than the last one, so over all crossed tracks the jump is the
 -- largest end of all records that overlap, in whatever order they are looked at.
+use Rattle.std.specs.Prelude.{None, Option, Some, ℤ}
+use Rattle.std.specs.Int.{int_max}
 use mathlib.Core.Path.{◌≡◌, refl, sym, ap, ◌∙◌, subst}
 use mathlib.Core.Bool.{true, cond, ◌&&◌}
 use mathlib.Core.List.{List, [], ◌∷◌}
@@ -21,12 +23,8 @@ use Rattle.theory_intervals.proofs.OverInt.{span_is}
 use Rattle.theory_intervals.specs.Lists.{all_in, recs, on_track}
 use Rattle.list_jumps.specs.Calls.{overlaps, extent_of, larger, over, collision_jump}
 use Rattle.list_rules.specs.Inner.{track_no, start_no, end_no, state_no, Crosses}
-use Rattle.list_jumps.specs.declared.Extent.{Extent}
-use Rattle.list_jumps.specs.declared.Extent.TheVariants as X
-use Rattle.list_jumps.specs.declared.Jump.{Jump}
-use Rattle.list_jumps.specs.declared.Jump.TheVariants as J
 use Rattle.list_jumps.proofs.Cells.{Has, here, there, between_is}
-use Rattle.list_jumps.proofs.Collisions.{Last, or_else_ends, if_ends, extent_last, extent_free, over_free, Where, over_next, Shape, next, free, shape}
+use Rattle.list_jumps.proofs.Collisions.{Last, or_ends, if_ends, extent_last, extent_free, over_free, Where, over_next, Shape, next, free, shape}
 
 -- ---- records by their index
 
@@ -83,9 +81,9 @@ is_behind u d v (rec w c e s ∷ rs) {t} {x} {y} h (there m) =
 
 -- ---- on a track the last overlapping record has the largest end
 
-extent_most : (u d : ℤ) (v : ℕ) (rs : List (Rec ℤ)) {t x y : ℤ} (a b e : ℤ) → behind lt_z ok u d v rs ≡ true → Has t x y rs → overlaps a b x y ≡ true → extent_of (on_track t rs) a b ≡ X.Ends e → y ≤ℤ e
+extent_most : (u d : ℤ) (v : ℕ) (rs : List (Rec ℤ)) {t x y : ℤ} (a b e : ℤ) → behind lt_z ok u d v rs ≡ true → Has t x y rs → overlaps a b x y ≡ true → extent_of (on_track t rs) a b ≡ Some e → y ≤ℤ e
 extent_most u d v [] a b e h x o q = elim x [ ]
-extent_most u d v (rec t x y s ∷ rs) a b e h here o q = go (or_else_ends (extent_of (on_track t rs) a b) (cond (overlaps a b x y) (X.Ends y) X.Free) e (rw (self t) at q))
+extent_most u d v (rec t x y s ∷ rs) a b e h here o q = go (or_ends (extent_of (on_track t rs) a b) (cond (overlaps a b x y) (Some y) None) e (rw (self t) at q))
   where
     self : (t : ℤ) → same lt_z t t ≡ true
     self t = rw (g_lt_false t t (omega signed))
@@ -93,7 +91,7 @@ extent_most u d v (rec t x y s ∷ rs) a b e h here o q = go (or_else_ends (exte
     j : (lt_z x y ≡ true) × (ok s ≡ true) × (behind lt_z ok t y s rs ≡ true)
     j = and₃ (lt_z x y) (ok s) (behind lt_z ok t y s rs) (and_r (follows lt_z u d v t x s) (lt_z x y && (ok s && behind lt_z ok t y s rs)) h)
 
-    go : (extent_of (on_track t rs) a b ≡ X.Ends e) ⊎ ((extent_of (on_track t rs) a b ≡ X.Free) × (cond (overlaps a b x y) (X.Ends y) X.Free ≡ X.Ends e)) → y ≤ℤ e
+    go : (extent_of (on_track t rs) a b ≡ Some e) ⊎ ((extent_of (on_track t rs) a b ≡ None) × (cond (overlaps a b x y) (Some y) None ≡ Some e)) → y ≤ℤ e
     go (inl k) =
         let m = extent_last rs t a b e k in
         let r = is_behind t y s rs j.2 m.has in
@@ -106,16 +104,16 @@ extent_most u d v (rec w c f s ∷ rs) {t} {x} {y} a b e h (there m) o q = go (t
     j : (lt_z c f ≡ true) × (ok s ≡ true) × (behind lt_z ok w f s rs ≡ true)
     j = and₃ (lt_z c f) (ok s) (behind lt_z ok w f s rs) (and_r (follows lt_z u d v w c s) (lt_z c f && (ok s && behind lt_z ok w f s rs)) h)
 
-    go : Test (same lt_z t w) → (extent_of (on_track t rs) a b ≡ X.Ends e → y ≤ℤ e) → y ≤ℤ e
+    go : Test (same lt_z t w) → (extent_of (on_track t rs) a b ≡ Some e → y ≤ℤ e) → y ≤ℤ e
     go (nay z) r = r (rw z at q)
-    go (yea z) r = by (or_else_ends (extent_of (on_track t rs) a b) (cond (overlaps a b c f) (X.Ends f) X.Free) e (rw z at q))
+    go (yea z) r = by (or_ends (extent_of (on_track t rs) a b) (cond (overlaps a b c f) (Some f) None) e (rw z at q))
       where
-        by : (extent_of (on_track t rs) a b ≡ X.Ends e) ⊎ ((extent_of (on_track t rs) a b ≡ X.Free) × (cond (overlaps a b c f) (X.Ends f) X.Free ≡ X.Ends e)) → y ≤ℤ e
+        by : (extent_of (on_track t rs) a b ≡ Some e) ⊎ ((extent_of (on_track t rs) a b ≡ None) × (cond (overlaps a b c f) (Some f) None ≡ Some e)) → y ≤ℤ e
         by (inl k) = r k
         by (inr k) = no_both o (extent_free a b m k.0)
 
 -- any list that keeps the rules stands behind some record
-most : (rs : List (Rec ℤ)) {t x y : ℤ} (a b e : ℤ) → keeps rs ≡ true → Has t x y rs → overlaps a b x y ≡ true → extent_of (on_track t rs) a b ≡ X.Ends e → y ≤ℤ e
+most : (rs : List (Rec ℤ)) {t x y : ℤ} (a b e : ℤ) → keeps rs ≡ true → Has t x y rs → overlaps a b x y ≡ true → extent_of (on_track t rs) a b ≡ Some e → y ≤ℤ e
 most [] a b e h m o q = elim m [ ]
 most (rec u c d s ∷ rs) {t} {x} {y} a b e h m o q =
     let z : lt_z (u -ℤ pos 1) u ≡ true = g_lt_true (u -ℤ pos 1) u (omega (signed, dif u (pos 1))) in
@@ -123,26 +121,26 @@ most (rec u c d s ∷ rs) {t} {x} {y} a b e h m o q =
 
 -- ---- the jump is the largest over the tracks
 
-module _ (F : ℤ → Extent) where
-  larger_most : (x : Extent) (j : Jump) (f e : ℤ) → larger x j ≡ J.Next e → (x ≡ X.Ends f) ⊎ (j ≡ J.Next f) → f ≤ℤ e
-  larger_most (X.Ends g) J.Free f e h (inl k) = let p : g ≡ f = cc in let q : g ≡ e = cc in omega signed
-  larger_most (X.Ends g) J.Free f e h (inr k) = let z : ◌≡◌ {A = ℕ} 0 1 = cc in absurd (omega arith)
-  larger_most X.Free (J.Next g) f e h (inl k) = let z : ◌≡◌ {A = ℕ} 0 1 = cc in absurd (omega arith)
-  larger_most X.Free (J.Next g) f e h (inr k) = let p : g ≡ f = cc in let q : g ≡ e = cc in omega signed
-  larger_most X.Free J.Free f e h k = let z : ◌≡◌ {A = ℕ} 0 1 = cc in absurd (omega arith)
-  larger_most (X.Ends g) (J.Next i) f e h k = go (test (lt_z g i)) k
+module _ (F : ℤ → Option ℤ) where
+  larger_most : (x : Option ℤ) (j : Option ℤ) (f e : ℤ) → larger x j ≡ Some e → (x ≡ Some f) ⊎ (j ≡ Some f) → f ≤ℤ e
+  larger_most (Some g) None f e h (inl k) = let p : g ≡ f = cc in let q : g ≡ e = cc in omega signed
+  larger_most (Some g) None f e h (inr k) = let z : ◌≡◌ {A = ℕ} 0 1 = cc in absurd (omega arith)
+  larger_most None (Some g) f e h (inl k) = let z : ◌≡◌ {A = ℕ} 0 1 = cc in absurd (omega arith)
+  larger_most None (Some g) f e h (inr k) = let p : g ≡ f = cc in let q : g ≡ e = cc in omega signed
+  larger_most None None f e h k = let z : ◌≡◌ {A = ℕ} 0 1 = cc in absurd (omega arith)
+  larger_most (Some g) (Some i) f e h k = go (test (lt_z g i)) k
     where
-      go : Test (lt_z g i) → (X.Ends g ≡ X.Ends f) ⊎ (J.Next i ≡ J.Next f) → f ≤ℤ e
-      go (yea z) (inl k) = let w : J.Next i ≡ J.Next e = rw z at h in let p : g ≡ f = cc in let q : i ≡ e = cc in omega signed
-      go (yea z) (inr k) = let w : J.Next i ≡ J.Next e = rw z at h in let p : i ≡ f = cc in let q : i ≡ e = cc in omega signed
-      go (nay z) (inl k) = let w : J.Next g ≡ J.Next e = rw z at h in let p : g ≡ f = cc in let q : g ≡ e = cc in omega signed
-      go (nay z) (inr k) = let w : J.Next g ≡ J.Next e = rw z at h in let p : i ≡ f = cc in let q : g ≡ e = cc in omega signed
+      go : Test (lt_z g i) → (Some g ≡ Some f) ⊎ (Some i ≡ Some f) → f ≤ℤ e
+      go (yea z) (inl k) = let w : Some i ≡ Some e = rw z at h in let p : g ≡ f = cc in let q : i ≡ e = cc in omega signed
+      go (yea z) (inr k) = let w : Some i ≡ Some e = rw z at h in let p : i ≡ f = cc in let q : i ≡ e = cc in omega signed
+      go (nay z) (inl k) = let w : Some g ≡ Some e = rw z at h in let p : g ≡ f = cc in let q : g ≡ e = cc in omega signed
+      go (nay z) (inr k) = let w : Some g ≡ Some e = rw z at h in let p : i ≡ f = cc in let q : g ≡ e = cc in omega signed
 
-  over_most : (t f : ℤ) (ts : List ℤ) (e : ℤ) → over (λ t j. larger (F t) j) ts ≡ J.Next e → mem lt_z t ts ≡ true → F t ≡ X.Ends f → f ≤ℤ e
+  over_most : (t f : ℤ) (ts : List ℤ) (e : ℤ) → over (λ t j. larger (F t) j) ts ≡ Some e → mem lt_z t ts ≡ true → F t ≡ Some f → f ≤ℤ e
   over_most t f [] e h m q = no_both m refl
   over_most t f (u ∷ ts) e h m q = go (test (same lt_z t u)) (shape (over (λ t j. larger (F t) j) ts)) (λ i k n. over_most t f ts i k n q)
     where
-      go : Test (same lt_z t u) → Shape (over (λ t j. larger (F t) j) ts) → ((i : ℤ) → over (λ t j. larger (F t) j) ts ≡ J.Next i → mem lt_z t ts ≡ true → f ≤ℤ i) → f ≤ℤ e
+      go : Test (same lt_z t u) → Shape (over (λ t j. larger (F t) j) ts) → ((i : ℤ) → over (λ t j. larger (F t) j) ts ≡ Some i → mem lt_z t ts ≡ true → f ≤ℤ i) → f ≤ℤ e
       go (yea z) w r = larger_most (F u) (over (λ t j. larger (F t) j) ts) f e h (inl (sym (ap F (same_yes t u z)) ∙ q))
       go (nay z) (next i k) r =
           let p = r i k (rw z at m) in
@@ -150,16 +148,16 @@ module _ (F : ℤ → Extent) where
           omega signed
       go (nay z) (free k) r = absurd (none (sym (over_free F t ts k (rw z at m)) ∙ q))
         where
-          none : X.Free ≡ X.Ends f → ⊥
+          none : None ≡ Some f → ⊥
           none k = let z : ◌≡◌ {A = ℕ} 0 1 = cc in omega arith
 
-data EShape (x : Extent) : Type 0 where
-  ends : (e : ℤ) → x ≡ X.Ends e → EShape x
-  none : x ≡ X.Free → EShape x
+data EShape (x : Option ℤ) : Type 0 where
+  ends : (e : ℤ) → x ≡ Some e → EShape x
+  none : x ≡ None → EShape x
 
-extent_shape : (x : Extent) → EShape x
-extent_shape (X.Ends e) = ends e refl
-extent_shape X.Free = none refl
+extent_shape : (x : Option ℤ) → EShape x
+extent_shape (Some e) = ends e refl
+extent_shape None = none refl
 
 -- ---- the look through all crossed records
 
@@ -176,9 +174,6 @@ pub record Best (l : List ℤ) (a b : ℤ) (first k : ℕ) (best : ℤ) : Type 0
   pub low : a ≤ℤ best
   pub top : (i : ℕ) → first ≤ i → i < k → start_no l i <ℤ b → end_no l i ≤ℤ best
   pub one : (best ≤ℤ a) ⊎ Reached l b first k best
-
-pub best_none : (l : List ℤ) (a b : ℤ) (first : ℕ) → Best l a b first first a
-best_none l a b first = record { low = omega signed; top = λ i h k. absurd (omega arith); one = inl (omega signed) }
 
 module _ {l : List ℤ} {a b : ℤ} {first k : ℕ} {best : ℤ} (v : Best l a b first k best) where
   kept : {m : ℕ} → k ≤ m → Reached l b first k best → Reached l b first m best
@@ -208,22 +203,21 @@ module _ {l : List ℤ} {a b : ℤ} {first k : ℕ} {best : ℤ} (v : Best l a b
       go i p q y (yes w) = subst (λ (j : ℕ). end_no l j ≤ℤ new) (sym w) (omega signed)
       go i p q y (no w) = let t = v.top i p (omega arith) y in omega signed
 
--- one record more is looked at
-pub best_step : {l : List ℤ} {a b : ℤ} {first k : ℕ} {best : ℤ} → Best l a b first k best → (m : ℕ) (c d r : ℤ) → m ≡ suc k → first ≤ k → c ≡ start_no l k → d ≡ end_no l k
-    → r ≡ cond (lt_z c b && lt_z best d) d best → Best l a b first m r
-best_step {l} {a} {b} {first} {k} {best} v m c d r e f p q h = go (test (lt_z c b)) (test (lt_z best d))
-  where
-    go : Test (lt_z c b) → Test (lt_z best d) → Best l a b first m r
-    go (yea x) (yea y) = subst (Best l a b first m) (sym (h ∙ rw (x, y))) (best_next v m d e f q (omega signed) (omega signed))
-    go (yea x) (nay y) = subst (Best l a b first m) (sym (h ∙ rw (x, y))) (best_same v m e (λ z. omega signed))
-    go (nay x) y = subst (Best l a b first m) (sym (h ∙ rw x)) (best_same v m e (λ z. absurd (omega signed)))
+  -- it counts
+  pub best_max : (m : ℕ) (d r : ℤ) → m ≡ suc k → first ≤ k → start_no l k <ℤ b → d ≡ end_no l k → r ≡ int_max best d → Best l a b first m r
+  best_max m d r e f z n h = go (test (lt_z d best)) (test (lt_z best d))
+    where
+      go : Test (lt_z d best) → Test (lt_z best d) → Best l a b first m r
+      go (yea x) y = subst (Best l a b first m) (sym (h ∙ rw x)) (best_same m e (λ q. omega signed))
+      go (nay x) (yea y) = subst (Best l a b first m) (sym (h ∙ rw x)) (best_next m d e f n z (omega signed))
+      go (nay x) (nay y) = let q : best ≡ d = omega signed in subst (Best l a b first m) (q ∙ sym (h ∙ rw x)) (best_same m e (λ q. omega signed))
 
 -- it is the collision jump
 module _ {l : List ℤ} {a b : ℤ} {first past : ℕ} {best : ℤ} (x : Crosses l first past) (v : Best l a b first past best) where
   abbrev rs : List (Rec ℤ)
   rs = recs x.used l
 
-  abbrev F : ℤ → Extent
+  abbrev F : ℤ → Option ℤ
   F t = extent_of (on_track t rs) a b
 
   rules_kept : keeps rs ≡ true
@@ -244,7 +238,7 @@ module _ {l : List ℤ} {a b : ℤ} {first past : ℕ} {best : ℤ} (x : Crosses
   meets r h = let s = r.before in let e = r.end in rw (g_lt_true (start_no l r.i) b (omega signed), g_lt_true a (end_no l r.i) (omega signed))
 
   -- nothing overlaps
-  pub none_found : collision_jump rs x.low x.high a b ≡ J.Free → best ≤ℤ a
+  pub none_found : collision_jump rs x.low x.high a b ≡ None → best ≤ℤ a
   none_found f = go v.one (test (lt_z a best))
     where
       go : (best ≤ℤ a) ⊎ Reached l b first past best → Test (lt_z a best) → best ≤ℤ a
@@ -252,7 +246,7 @@ module _ {l : List ℤ} {a b : ℤ} {first past : ℕ} {best : ℤ} (x : Crosses
       go (inr r) (nay t) = omega signed
       go (inr r) (yea t) = no_both (meets r (omega signed)) (extent_free a b (has r.i r.to) (over_free F (track_no l r.i) (span x.low x.high) f (crossed r.i r.from r.to)))
 
-  pub found_end : (e : ℤ) → collision_jump rs x.low x.high a b ≡ J.Next e → (a <ℤ best) × (best ≡ e)
+  pub found_end : (e : ℤ) → collision_jump rs x.low x.high a b ≡ Some e → (a <ℤ best) × (best ≡ e)
   found_end e j = (past_a, at_e)
     where
       w : Where F (span x.low x.high) e
@@ -305,16 +299,16 @@ module _ {l : List ℤ} {a b : ℤ} {first past : ℕ} {best : ℤ} (x : Crosses
       at_e : best ≡ e
       at_e = let p = low in let q = high in omega signed
 
-  pub jump_found_lem : a <ℤ best → J.Next best ≡ collision_jump rs x.low x.high a b
+  pub jump_found_lem : a <ℤ best → Some best ≡ collision_jump rs x.low x.high a b
   jump_found_lem h = go (shape (collision_jump rs x.low x.high a b))
     where
-      go : Shape (collision_jump rs x.low x.high a b) → J.Next best ≡ collision_jump rs x.low x.high a b
-      go (next e j) = ap J.Next (found_end e j).1 ∙ sym j
+      go : Shape (collision_jump rs x.low x.high a b) → Some best ≡ collision_jump rs x.low x.high a b
+      go (next e j) = ap Some (found_end e j).1 ∙ sym j
       go (free f) = let p = none_found f in absurd (omega signed)
 
-  pub jump_missed : best ≤ℤ a → J.Free ≡ collision_jump rs x.low x.high a b
+  pub jump_missed : best ≤ℤ a → None ≡ collision_jump rs x.low x.high a b
   jump_missed h = go (shape (collision_jump rs x.low x.high a b))
     where
-      go : Shape (collision_jump rs x.low x.high a b) → J.Free ≡ collision_jump rs x.low x.high a b
+      go : Shape (collision_jump rs x.low x.high a b) → None ≡ collision_jump rs x.low x.high a b
       go (next e j) = let p = (found_end e j).0 in absurd (omega signed)
       go (free f) = sym f

@@ -1,4 +1,6 @@
 -- The last overlapping record of a list of records, from behind.
+use Rattle.std.specs.Option.{option_or}
+use Rattle.std.specs.Prelude.{None, Option, Some, ℤ}
 use mathlib.Core.Path.{◌≡◌, refl, ap, ◌∙◌}
 use mathlib.Core.Bool.{true, false, cond}
 use mathlib.Core.List.{List, [], ◌∷◌, ◌++◌}
@@ -14,21 +16,19 @@ use Rattle.theory_intervals.proofs.Line.{Test, yea, nay, test, no_both}
 use Rattle.theory_intervals.specs.Records.{Rec, rec}
 use Rattle.theory_intervals.proofs.Index.{rows_snoc}
 use Rattle.theory_intervals.specs.Lists.{recs}
-use Rattle.list_jumps.specs.Calls.{overlaps, or_else, extent_of}
+use Rattle.list_jumps.specs.Calls.{overlaps, extent_of}
 use Rattle.list_rules.specs.Inner.{track_no, start_no, end_no, state_no, may_follow, Front, Part, Ascends}
-use Rattle.list_jumps.specs.declared.Extent.{Extent}
-use Rattle.list_jumps.specs.declared.Extent.TheVariants.{Ends, Free}
 
-extent_snoc : (xs : List (Rec ℤ)) (t c d : ℤ) (s : ℕ) (a b : ℤ) → extent_of (xs ++ (rec t c d s ∷ [])) a b ≡ cond (overlaps a b c d) (Ends d) (extent_of xs a b)
+extent_snoc : (xs : List (Rec ℤ)) (t c d : ℤ) (s : ℕ) (a b : ℤ) → extent_of (xs ++ (rec t c d s ∷ [])) a b ≡ cond (overlaps a b c d) (Some d) (extent_of xs a b)
 extent_snoc [] t c d s a b = refl
-extent_snoc (rec u x y v ∷ xs) t c d s a b = ap (λ (e : Extent). or_else e (cond (overlaps a b x y) (Ends y) Free)) (extent_snoc xs t c d s a b) ∙ go (test (overlaps a b c d))
+extent_snoc (rec u x y v ∷ xs) t c d s a b = ap (λ (e : Option ℤ). option_or e (cond (overlaps a b x y) (Some y) None)) (extent_snoc xs t c d s a b) ∙ go (test (overlaps a b c d))
   where
-    go : Test (overlaps a b c d) → or_else (cond (overlaps a b c d) (Ends d) (extent_of xs a b)) (cond (overlaps a b x y) (Ends y) Free) ≡ cond (overlaps a b c d) (Ends d) (or_else (extent_of xs a b) (cond (overlaps a b x y) (Ends y) Free))
+    go : Test (overlaps a b c d) → option_or (cond (overlaps a b c d) (Some d) (extent_of xs a b)) (cond (overlaps a b x y) (Some y) None) ≡ cond (overlaps a b c d) (Some d) (option_or (extent_of xs a b) (cond (overlaps a b x y) (Some y) None))
     go (yea e) = rw e
     go (nay e) = rw e
 
 -- one record less, from behind
-pub extent_step : (l : List ℤ) (a b : ℤ) (k j : ℕ) → k ≡ suc j → extent_of (recs k l) a b ≡ cond (overlaps a b (start_no l j) (end_no l j)) (Ends (end_no l j)) (extent_of (recs j l) a b)
+pub extent_step : (l : List ℤ) (a b : ℤ) (k j : ℕ) → k ≡ suc j → extent_of (recs k l) a b ≡ cond (overlaps a b (start_no l j) (end_no l j)) (Some (end_no l j)) (extent_of (recs j l) a b)
 extent_step l a b k j e =
     ap (λ (m : ℕ). extent_of (recs m l) a b) e
     ∙ ap (λ (r : List (Rec ℤ)). extent_of r a b) (rows_snoc j (track_no l) (start_no l) (end_no l) (λ i. nat_abs (state_no l i)))
@@ -36,7 +36,7 @@ extent_step l a b k j e =
 
 -- ---- a scan that is settled by the first record from behind that starts before the end
 
-none_overlap : (l : List ℤ) (a b : ℤ) (m : ℕ) → ((i : ℕ) → i < m → overlaps a b (start_no l i) (end_no l i) ≡ false) → extent_of (recs m l) a b ≡ Free
+none_overlap : (l : List ℤ) (a b : ℤ) (m : ℕ) → ((i : ℕ) → i < m → overlaps a b (start_no l i) (end_no l i) ≡ false) → extent_of (recs m l) a b ≡ None
 none_overlap l a b zero h = refl
 none_overlap l a b (suc m) h = extent_step l a b (suc m) m refl ∙ rw (h m (omega arith)) (none_overlap l a b m (λ i k. h i (omega arith)))
 
@@ -74,7 +74,7 @@ late_off l a b k (suc m) h f = go (ℕ_discrete k (suc m)) (λ q. late_off l a b
         let q = f m (omega arith) (omega arith) in
         extent_step l a b (suc m) m refl ∙ rw (g_lt_false (start_no l m) b (omega signed)) (r (omega arith))
 
-pub settled : {l : List ℤ} {n : ℕ} → Ascends l n → (a b : ℤ) (k j : ℕ) → k ≡ suc j → j < n → end_no l j ≤ℤ a → extent_of (recs k l) a b ≡ Free
+pub settled : {l : List ℤ} {n : ℕ} → Ascends l n → (a b : ℤ) (k j : ℕ) → k ≡ suc j → j < n → end_no l j ≤ℤ a → extent_of (recs k l) a b ≡ None
 settled {l} {n} v a b k j e h t =
     none_overlap l a b k (λ i q. go i q (ℕ_discrete i j))
   where

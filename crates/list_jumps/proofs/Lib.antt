@@ -1,3 +1,4 @@
+pub mod Maximum
 pub mod Over
 pub mod LastOverlap
 pub mod Crossed

@@ -1,4 +1,6 @@
 -- The occupied-track jump and the cells of a track.
+use Rattle.std.specs.Option.{option_or}
+use Rattle.std.specs.Prelude.{None, Option, Some, ℤ}
 use mathlib.Core.Path.{◌≡◌, refl, sym, ap, ◌∙◌, subst}
 use mathlib.Core.Bool.{true}
 use mathlib.Core.List.{List, [], ◌∷◌}
@@ -15,17 +17,15 @@ use Rattle.theory_intervals.proofs.Tracks.{same_yes}
 use Rattle.theory_intervals.specs.Records.{Rec, rec, same}
 use Rattle.theory_intervals.specs.OverInt.{cell_of, span}
 use Rattle.theory_intervals.specs.Lists.{rules, on_track}
-use Rattle.list_jumps.specs.Calls.{over, or_next, past_track, occupied_jump}
-use Rattle.list_jumps.specs.declared.Jump.{Jump}
-use Rattle.list_jumps.specs.declared.Jump.TheVariants as J
+use Rattle.list_jumps.specs.Calls.{over, past_track, occupied_jump}
 use Rattle.theory_intervals.proofs.Spans.{span_none, span_cons}
 use Rattle.list_jumps.proofs.Cells.{Has, here, there, Cell, empty, filled, cell, sound, has_order, has_cell}
 use Rattle.list_jumps.specs.Meaning.{IsClear, LastTrack}
 
 -- a track has a record, or none
 data On (rs : List (Rec ℤ)) (t : ℤ) : Type 0 where
-  clear : on_track t rs ≡ [] → past_track (on_track t rs) t ≡ J.Free → On rs t
-  some : (c d : ℤ) → Has t c d rs → past_track (on_track t rs) t ≡ J.Next (t +ℤ pos 1) → On rs t
+  clear : on_track t rs ≡ [] → past_track (on_track t rs) t ≡ None → On rs t
+  some : (c d : ℤ) → Has t c d rs → past_track (on_track t rs) t ≡ Some (t +ℤ pos 1) → On rs t
 
 on : (rs : List (Rec ℤ)) (t : ℤ) → On rs t
 on [] t = clear refl refl
@@ -55,12 +55,12 @@ clear_cells rs t p h = go (cell rs t p)
     go (filled c d m x y) = absurd (has_not_clear m h)
 
 module _ (rs : List (Rec ℤ)) (h : rules rs ≡ true) where
-  abbrev past : ℤ → Jump → Jump
-  past t j = or_next j (past_track (on_track t rs) t)
+  abbrev past : ℤ → Option ℤ → Option ℤ
+  past t j = option_or j (past_track (on_track t rs) t)
 
-  data Result (a b : ℤ) (j : Jump) : Type 0 where
-    none : j ≡ J.Free → IsClear rs a b → Result a b j
-    found : (e : ℤ) → j ≡ J.Next e → LastTrack rs a b e → Result a b j
+  data Result (a b : ℤ) (j : Option ℤ) : Type 0 where
+    none : j ≡ None → IsClear rs a b → Result a b j
+    found : (e : ℤ) → j ≡ Some e → LastTrack rs a b e → Result a b j
 
   result : (n : ℕ) (a b : ℤ) → gap a b ≤ n → Result a b (over past (span a b))
   result zero a b g = none (ap (over past) (span_none a b (omega signed))) (λ t p x y. absurd (omega signed))
@@ -93,14 +93,14 @@ module _ (rs : List (Rec ℤ)) (h : rules rs ≡ true) where
               at t p x y (yes w) = z t p (omega signed) y
               at t p x y (no w) = let i : t ≡ a = omega signed in rw i (clear_cells rs a p e)
 
-  pub clear_jump : (t₁ t₂ : ℤ) → occupied_jump rs t₁ t₂ ≡ J.Free ↔ IsClear rs t₁ t₂
+  pub clear_jump : (t₁ t₂ : ℤ) → occupied_jump rs t₁ t₂ ≡ None ↔ IsClear rs t₁ t₂
   clear_jump t₁ t₂ = go (result (gap t₁ t₂) t₁ t₂ (omega arith))
     where
-      go : Result t₁ t₂ (occupied_jump rs t₁ t₂) → occupied_jump rs t₁ t₂ ≡ J.Free ↔ IsClear rs t₁ t₂
+      go : Result t₁ t₂ (occupied_jump rs t₁ t₂) → occupied_jump rs t₁ t₂ ≡ None ↔ IsClear rs t₁ t₂
       go (none e z) = ((λ x. z), (λ x. e))
       go (found e f m) = ((λ x. let z : ◌≡◌ {A = ℕ} 0 1 = cc in absurd (omega arith)), (λ x. absurd (m.state (x m.track m.line m.low m.high))))
 
-  pub last_jump : (t₁ t₂ e : ℤ) → occupied_jump rs t₁ t₂ ≡ J.Next e → LastTrack rs t₁ t₂ e
+  pub last_jump : (t₁ t₂ e : ℤ) → occupied_jump rs t₁ t₂ ≡ Some e → LastTrack rs t₁ t₂ e
   last_jump t₁ t₂ e j = go (result (gap t₁ t₂) t₁ t₂ (omega arith))
     where
       go : Result t₁ t₂ (occupied_jump rs t₁ t₂) → LastTrack rs t₁ t₂ e

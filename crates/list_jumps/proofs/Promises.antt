@@ -1,4 +1,5 @@
 -- What is promised of the list calls that read a list, each under document 01's words.
+use Rattle.std.specs.Prelude.{None, Some}
 use mathlib.Core.Path.{◌≡◌, sym, ap, ◌∙◌}
 use mathlib.Core.Bool.{true}
 use mathlib.Core.List.{List}
@@ -13,8 +14,6 @@ use Rattle.theory_intervals.specs.Lists.{rules, recs, Free}
 use Rattle.list_rules.specs.Kept.{kept_of}
 use Rattle.list_jumps.specs.Calls.{collision_jump, occupied_jump}
 use Rattle.list_tracks.specs.Tracks.{Stands}
-use Rattle.list_rules.specs.declared.Used.TheVariants.{Records}
-use Rattle.list_jumps.specs.declared.Jump.TheVariants as J
 use Rattle.theory_intervals.proofs.Lists.{length_recs, recs_enc}
 use Rattle.list_tracks.proofs.Named.{records_holds, holds_records}
 use Rattle.list_jumps.specs.Meaning.{IsFlatOf, Collides, IsClear, LastTrack}
@@ -22,7 +21,7 @@ use Rattle.list_jumps.proofs.Collisions.{jump_free, jump_next}
 use Rattle.list_jumps.proofs.Occupied.{clear_jump, last_jump}
 
 -- "a list that breaks the list rules": the answer is n exactly for the flat lists of n records that keep the rules
-pub kept_exactly : (l : List ℤ) (n : ℕ) → kept_of l ≡ Records n ↔ IsFlatOf l n
+pub kept_exactly : (l : List ℤ) (n : ℕ) → kept_of l ≡ Some n ↔ IsFlatOf l n
 kept_exactly l n = (
   (λ e. let h = records_holds e in record { records = recs n l; count = length_recs n l; keep = h.keep; laid = h.laid }),
   (λ f.
@@ -32,20 +31,20 @@ kept_exactly l n = (
 )
 
 -- "Collision jump: none if free": exactly when no cell of the area has a state
-pub none_if_free : (rs : List (Rec ℤ)) → rules rs ≡ true → (t₁ t₂ a b : ℤ) → a <ℤ b → collision_jump rs t₁ t₂ a b ≡ J.Free ↔ Free rs t₁ t₂ a b
+pub none_if_free : (rs : List (Rec ℤ)) → rules rs ≡ true → (t₁ t₂ a b : ℤ) → a <ℤ b → collision_jump rs t₁ t₂ a b ≡ None ↔ Free rs t₁ t₂ a b
 none_if_free = jump_free
 
 -- "else the largest, over the crossed tracks, of the end of the last overlapping record": a search may go on there, since every area as wide that
 -- starts before it is taken too
-pub jump_collides : (rs : List (Rec ℤ)) → rules rs ≡ true → (t₁ t₂ a b e : ℤ) → a <ℤ b → collision_jump rs t₁ t₂ a b ≡ J.Next e → Collides rs t₁ t₂ a b e
+pub jump_collides : (rs : List (Rec ℤ)) → rules rs ≡ true → (t₁ t₂ a b e : ℤ) → a <ℤ b → collision_jump rs t₁ t₂ a b ≡ Some e → Collides rs t₁ t₂ a b e
 jump_collides = jump_next
 
 -- "Occupied-track jump: .. or none": exactly when no cell on a track of the span has a state
-pub none_if_clear : (rs : List (Rec ℤ)) → rules rs ≡ true → (t₁ t₂ : ℤ) → occupied_jump rs t₁ t₂ ≡ J.Free ↔ IsClear rs t₁ t₂
+pub none_if_clear : (rs : List (Rec ℤ)) → rules rs ≡ true → (t₁ t₂ : ℤ) → occupied_jump rs t₁ t₂ ≡ None ↔ IsClear rs t₁ t₂
 none_if_clear = clear_jump
 
 -- "one past the last non-empty track in a span"
-pub past_the_last : (rs : List (Rec ℤ)) → rules rs ≡ true → (t₁ t₂ e : ℤ) → occupied_jump rs t₁ t₂ ≡ J.Next e → LastTrack rs t₁ t₂ e
+pub past_the_last : (rs : List (Rec ℤ)) → rules rs ≡ true → (t₁ t₂ e : ℤ) → occupied_jump rs t₁ t₂ ≡ Some e → LastTrack rs t₁ t₂ e
 past_the_last = last_jump
 
 -- "any two that satisfy a statement are proved identical": two places of one part

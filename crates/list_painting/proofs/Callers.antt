@@ -1,4 +1,4 @@
--- For callers: what a paint leaves is what the next one requires, and a callee's words said of the numbers that it was called with.
+-- For callers: what a paint leaves is what the next one requires.
 use mathlib.Core.Path.{◌≡◌, subst, sym, ap, ◌∙◌}
 use mathlib.Core.Bool.{true, cond, ◌&&◌}
 use mathlib.Core.List.{List}
@@ -6,9 +6,6 @@ use Prim.Native.Nat.{ℕ, ◌*◌, ◌≤◌}
 use lib.IntN.{ℤ, pos}
 use lib.Signed.{lt_z}
 use lib.ListN.{length, replicate}
-use mir.Syntax.{w16}
-use mir.Val.{SFits}
-use mir.Facts.{to_z-of_z}
 use Rattle.theory_intervals.specs.Records.{Rec, between}
 use Rattle.theory_intervals.specs.OverInt.{cell_of, keeps, fit, paint_list, flat}
 use Rattle.theory_intervals.specs.Lists.{all_in, area_in, good_area, recs, Holds}
@@ -16,8 +13,7 @@ use Rattle.theory_intervals.proofs.Grid.{and_l}
 use Rattle.theory_intervals.proofs.OverInt.{paint_list_cell}
 use Rattle.theory_intervals.proofs.Lists.{flat_holds, flat_recs, empty_holds}
 use Rattle.theory_intervals.proofs.Limits.{paint_list_rules}
-use Rattle.list_painting.specs.Painting.{state_of, area_of}
-use Rattle.list_pieces.proofs.Bits.{ζ}
+use Rattle.list_areas.specs.Areas.{state_of, area_of}
 
 -- a list that was painted with a good area holds the records of the paint: `x` is the list and n the count that `repaint` leaves
 pub painted_holds : {l x : List ℤ} {used n : ℕ} (t₁ t₂ a b s : ℤ) → Holds l used → good_area (area_of t₁ t₂ a b s) ≡ true
@@ -47,16 +43,3 @@ good_fit t₁ t₂ a b s h = and_l (fit (area_of t₁ t₂ a b s)) (area_in (are
 -- a cleared list holds nothing
 pub cleared_holds : (m : ℕ) {x : List ℤ} → x ≡ replicate m (pos 0) → Holds x 0
 cleared_holds m e = subst (λ (y : List ℤ). Holds y 0) (sym e) (empty_holds m)
-
--- ---- a callee speaks of its arguments as read back from their bits
-
-pub count16 : {t₁ t₂ a b s : ℤ} (rs : List (Rec ℤ)) {n : ℕ} → SFits w16 t₁ → SFits w16 t₂ → SFits w16 a → SFits w16 b → SFits w16 s
-    → n ≡ length (paint_list (area_of (ζ t₁) (ζ t₂) (ζ a) (ζ b) (ζ s)) rs) → n ≡ length (paint_list (area_of t₁ t₂ a b s) rs)
-count16 rs f g h k m e = rw (to_z-of_z f, to_z-of_z g, to_z-of_z h, to_z-of_z k, to_z-of_z m) at e
-
-pub list16 : {t₁ t₂ a b s : ℤ} (rs : List (Rec ℤ)) (n : ℕ) {x : List ℤ} → SFits w16 t₁ → SFits w16 t₂ → SFits w16 a → SFits w16 b → SFits w16 s
-    → x ≡ flat n (paint_list (area_of (ζ t₁) (ζ t₂) (ζ a) (ζ b) (ζ s)) rs) → x ≡ flat n (paint_list (area_of t₁ t₂ a b s) rs)
-list16 rs n f g h k m e = rw (to_z-of_z f, to_z-of_z g, to_z-of_z h, to_z-of_z k, to_z-of_z m) at e
-
-pub fit16 : {t₁ t₂ a b s : ℤ} → SFits w16 t₁ → SFits w16 t₂ → SFits w16 a → SFits w16 b → SFits w16 s → fit (area_of t₁ t₂ a b s) ≡ true → fit (area_of (ζ t₁) (ζ t₂) (ζ a) (ζ b) (ζ s)) ≡ true
-fit16 f g h k m e = rw (to_z-of_z f, to_z-of_z g, to_z-of_z h, to_z-of_z k, to_z-of_z m) e

@@ -2,18 +2,16 @@
 use mathlib.Core.Path.{◌≡◌, refl, sym, ap, ◌∙◌, subst}
 use mathlib.Core.Bool.{Bool, true, false, ◌&&◌}
 use mathlib.Core.List.{List, [], ◌∷◌, ◌++◌, map}
-use Prim.Native.Nat.{ℕ, zero, suc, ◌+◌, ◌-◌, ◌*◌, ◌≤◌, ◌<◌, ◌/◌}
-use native.Mathlib.Nat.{div-lt_iff_lt-mul, le-div_iff_mul-le}
+use Prim.Native.Nat.{ℕ, zero, suc, ◌+◌, ◌-◌, ◌*◌, ◌≤◌}
 use native.Mathlib.Omega.{arith}
-use lib.Dec.{eqb, ltb}
-use lib.IntN.{ℤ, pos, negsuc, nat_abs}
+use lib.Dec.{eqb}
+use lib.IntN.{ℤ, pos, nat_abs}
 use lib.Signed.{lt_z}
 use lib.ListN.{length, drop, get_or, replicate, length-map}
 use mir.Syntax.{w16}
 use mir.Val.{to_z, of_z}
-use borrow.Author.Tests.{eqb-true, ltb-true, ltb-false, lt-ltb, le-ltb}
+use borrow.Author.Tests.{eqb-true}
 use Rattle.theory_signed.specs.Parts.{gap}
-use Rattle.theory_signed.proofs.Laws.{by_test}
 use Rattle.theory_intervals.specs.Records.{Rec, rec, behind, follows}
 use Rattle.theory_intervals.specs.Paint.{run, Point, pt, to_run, to_rec}
 use Rattle.theory_intervals.specs.OverInt.{ok, keeps, fit, paint_list, span, encode, flat}
@@ -29,10 +27,13 @@ use Rattle.theory_intervals.proofs.Tracks.{OK, K, Grow, Fits, Shrunk, shrunk, mo
 use Rattle.theory_intervals.proofs.Spans.{dis_span, in_self}
 use Rattle.list_moves.specs.Fours.{Four, enc, fours, four_at}
 use Rattle.list_moves.proofs.Fours.{laid_is, length_enc, length_fours, fours_snoc, enc_fours}
-use Rattle.list_painting.specs.Painting.{state_of, area_of}
+use Rattle.list_areas.specs.Areas.{state_of, area_of}
+use Rattle.list_areas.specs.declared.Area.{Area}
+use Rattle.list_areas.proofs.Good.{Good, state_bits}
+use Rattle.list_areas.proofs.Good as Ar
 use Rattle.list_pieces.specs.Reach as Re
 use Rattle.list_pieces.specs.Reach.{runs, Stored}
-use Rattle.list_pieces.specs.Passes.{Good, Ready, Roomy, Swept}
+use Rattle.list_pieces.specs.Passes.{Ready, Roomy, Swept}
 use Rattle.list_pieces.proofs.Build.{map_append}
 use Rattle.list_pieces.proofs.Above.{in_span}
 use Rattle.list_sweeps.proofs.Count.{length_runs}
@@ -47,10 +48,6 @@ one_two n Z h x y = go (test (eqb n 1)) (test (eqb n 2))
     go (yea e) i = subst Z (sym (eqb-true n 1 e)) x
     go (nay e) (yea i) = subst Z (sym (eqb-true n 2 i)) y
     go (nay e) (nay i) = no_both h (rw (e, i))
-
-bits : (z : ℤ) → ok (state_of z) ≡ true → of_z w16 z ≡ state_of z
-bits (pos n) h = refl
-bits (negsuc n) h = no_both h refl
 
 back : (z : ℤ) → z ≡ pos (nat_abs z) → ok (nat_abs z) ≡ true → to_z w16 (of_z w16 z) ≡ z
 back z e h = ap (λ (y : ℤ). to_z w16 (of_z w16 y)) e ∙ one_two (nat_abs z) (λ (m : ℕ). to_z w16 (of_z w16 (pos m)) ≡ pos m) h refl refl ∙ sym e
@@ -127,18 +124,15 @@ pub record Asked (l : List ℤ) (used : ℕ) (t₁ t₂ a b s : ℤ) : Type 0 wh
   pub holds : Holds l used
   pub fits : fit (area_of t₁ t₂ a b s) ≡ true
 
+pub asked : {l : List ℤ} {used : ℕ} (x : Area) → Holds l used → Asked l used x.track_start x.track_end x.stroke.start x.stroke.end x.stroke.state
+asked x h = record { holds = h; fits = x.fits }
+
 module _ {l : List ℤ} {used : ℕ} {t₁ t₂ a b s : ℤ} (q : Asked l used t₁ t₂ a b s) where
-  parts : (lt_z t₁ t₂ ≡ true) × (lt_z a b ≡ true) × (ok (state_of s) ≡ true)
-  parts = and₃ (lt_z t₁ t₂) (lt_z a b) (ok (state_of s)) q.fits
-
-  pub tracks : lt_z t₁ t₂ ≡ true
-  tracks = parts.0
-
   σ_is : of_z w16 s ≡ state_of s
-  σ_is = bits s parts.2
+  σ_is = state_bits t₁ t₂ a b s q.fits
 
   pub good : Good a b s
-  good = record { less = record { lt = parts.1 }; state = record { is = ap ok σ_is ∙ parts.2 } }
+  good = Ar.good t₁ t₂ a b s q.fits
 
   abbrev A : List Rn
   A = runs (fours used l)
@@ -248,17 +242,3 @@ module _ {l : List ℤ} {used : ℕ} {t₁ t₂ a b s : ℤ} (q : Asked l used t
           is = w.is ∙ sw_all a b (of_z w16 s) good.less good.state us (runs (fours n x)) ∙ ends ∙ sym (sw_all a b (of_z w16 s) good.less good.state us A);
           stored = w.stored;
         })
-
--- ---- `x / 4 < y` is asked in place of `x < 4 * y`, which need not fit
-
-pub quarter_lt : (x y : ℕ) → x / 4 < y → x < 4 * y
-quarter_lt x y h = omega (arith, (div-lt_iff_lt-mul {k = 4} {x = x} {y = y} (omega arith)).0 h)
-
-pub quarter_le : (x y : ℕ) → y ≤ x / 4 → 4 * y ≤ x
-quarter_le x y h = omega (arith, (le-div_iff_mul-le {k = 4} {x = y} {y = x} (omega arith)).0 h)
-
-pub quarter : (n k : ℕ) → ltb (n / 4) k ≡ ltb n (4 * k)
-quarter n k =
-    by_test (ltb (n / 4) k) (λ (b : Bool). b ≡ ltb n (4 * k))
-    (λ e. sym (lt-ltb n (4 * k) (quarter_lt n k (ltb-true (n / 4) k e))))
-    (λ e. sym (le-ltb n (4 * k) (quarter_le n k (ltb-false (n / 4) k e))))

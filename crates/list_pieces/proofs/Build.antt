@@ -2,84 +2,30 @@
 use mathlib.Core.Path.{◌≡◌, refl, sym, ap, ◌∙◌}
 use mathlib.Core.Bool.{Bool, true, false, cond}
 use mathlib.Core.List.{List, [], ◌∷◌, ◌++◌, map}
-use Prim.Native.Nat.{ℕ, suc, ◌+◌, ◌-◌, ◌*◌, ◌^◌, ◌<◌, ◌≤◌}
+use Prim.Native.Nat.{ℕ, suc, ◌+◌, ◌-◌, ◌*◌, ◌<◌, ◌≤◌}
 use native.Mathlib.Omega.{arith}
-use lib.IntN.{ℤ, pos}
+use lib.IntN.{ℤ}
 use lib.Dec.{eqb}
-use lib.Signed.{lt_z, mag}
+use lib.Signed.{lt_z}
 use lib.ListN.{drop, length}
 use mir.Syntax.{w16}
-use mir.Val.{of_z, SFits}
-use mir.Facts.{to_z-of_z}
+use mir.Val.{of_z}
 use Rattle.theory_intervals.specs.Paint.{run, Point, pt}
 use Rattle.theory_intervals.proofs.Line.{Test, yea, nay, test}
 use Rattle.theory_intervals.proofs.IntOrder.{int_linear}
 use Rattle.theory_intervals.specs.Cut.{new, lrem, lstart, rtail, rend, lx, Rn}
 use Rattle.list_moves.specs.Fours.{Four, four_at, fours}
-use Rattle.list_moves.proofs.Parts.{same16}
 use Rattle.list_moves.proofs.Fours.{fours_more, fours_snoc, four_at_drop_add}
 use Rattle.list_pieces.proofs.Bits.{ζ}
-use Rattle.list_pieces.specs.Reach.{run_of, runs, four, start_of, left_of, end_of, right_of, nil, cons, Built, Pieced, OnTrack}
+use Rattle.list_pieces.specs.Reach.{run_of, runs, four, start_of, left_of, end_of, nil, cons, Built, Pieced, OnTrack}
 
-module _ (c v d z a b s : ℤ) (C : SFits w16 c) (Vv : SFits w16 v) (D : SFits w16 d) (Z : SFits w16 z) (A : SFits w16 a) (B : SFits w16 b) (S : SFits w16 s)
-    (st en : ℤ) (o : mag st < 2 ^ 15) (o' : mag en < 2 ^ 15)
-    (e : st ≡ start_of (ζ c) (of_z w16 (ζ v)) (ζ a) (of_z w16 (ζ s))) (e' : en ≡ end_of (ζ d) (of_z w16 (ζ z)) (ζ b) (of_z w16 (ζ s))) where
-  est : ζ st ≡ start_of c (of_z w16 v) a (of_z w16 s)
-  est = same16 o ∙ e ∙ (λ i. start_of (to_z-of_z C i) (of_z w16 (to_z-of_z Vv i)) (to_z-of_z A i) (of_z w16 (to_z-of_z S i)))
-
-  een : ζ en ≡ end_of d (of_z w16 z) b (of_z w16 s)
-  een = same16 o' ∙ e' ∙ (λ i. end_of (to_z-of_z D i) (of_z w16 (to_z-of_z Z i)) (to_z-of_z B i) (of_z w16 (to_z-of_z S i)))
-
-  left : (k : Bool) → k ≡ left_of (ζ c) (of_z w16 (ζ v)) (ζ a) (of_z w16 (ζ s)) → left_of c (of_z w16 v) a (of_z w16 s) ≡ k
-  left k h = sym (h ∙ (λ i. left_of (to_z-of_z C i) (of_z w16 (to_z-of_z Vv i)) (to_z-of_z A i) (of_z w16 (to_z-of_z S i))))
-
-  right : (k : Bool) → k ≡ right_of (ζ d) (of_z w16 (ζ z)) (ζ b) (of_z w16 (ζ s)) → right_of d (of_z w16 z) b (of_z w16 s) ≡ k
-  right k h = sym (h ∙ (λ i. right_of (to_z-of_z D i) (of_z w16 (to_z-of_z Z i)) (to_z-of_z B i) (of_z w16 (to_z-of_z S i))))
-
-  -- nothing is left on either side: one record
-  pub one_piece : (t : ℤ) → false ≡ left_of (ζ c) (of_z w16 (ζ v)) (ζ a) (of_z w16 (ζ s)) → false ≡ right_of (ζ d) (of_z w16 (ζ z)) (ζ b) (of_z w16 (ζ s))
-      → Built t c v d z a b s (four t (ζ st) (ζ en) s ∷ [])
-  one_piece t h k =
-      record { is = (λ i. run (pt t (est i)) (pt t (een i)) (of_z w16 s) ∷ []) ∙ sym (rw (left false h, right false k)); stored = cons (to_z-of_z S) nil; placed = cons refl nil }
-
-  module _ (t : ℤ) (T : SFits w16 t) where
-    abbrev L1 : ℤ → ℤ → ℤ → ℤ → List Rn
-    L1 x y w u = run (pt x y) (pt x w) (of_z w16 u) ∷ []
-
-    pub b3 : true ≡ left_of (ζ c) (of_z w16 (ζ v)) (ζ a) (of_z w16 (ζ s)) → true ≡ right_of (ζ d) (of_z w16 (ζ z)) (ζ b) (of_z w16 (ζ s))
-        → Built t c v d z a b s (fours 3 (ζ t ∷ ζ c ∷ ζ a ∷ ζ v ∷ ζ t ∷ ζ st ∷ ζ en ∷ ζ s ∷ ζ t ∷ ζ b ∷ ζ d ∷ ζ z ∷ []))
-    b3 h k = record {
-      is = (λ i. L1 (to_z-of_z T i) (to_z-of_z C i) (to_z-of_z A i) (to_z-of_z Vv i) ++ (run (pt (to_z-of_z T i) (est i)) (pt (to_z-of_z T i) (een i)) (of_z w16 (to_z-of_z S i)) ∷ L1 (to_z-of_z T i) (to_z-of_z B i) (to_z-of_z D i) (to_z-of_z Z i)))
-          ∙ sym (rw (left true h, right true k));
-      stored = cons (ap ζ (to_z-of_z Vv)) (cons (ap ζ (to_z-of_z S)) (cons (ap ζ (to_z-of_z Z)) nil));
-      placed = cons (to_z-of_z T) (cons (to_z-of_z T) (cons (to_z-of_z T) nil));
-    }
-
-    pub b2l : true ≡ left_of (ζ c) (of_z w16 (ζ v)) (ζ a) (of_z w16 (ζ s)) → false ≡ right_of (ζ d) (of_z w16 (ζ z)) (ζ b) (of_z w16 (ζ s))
-        → Built t c v d z a b s (fours 2 (ζ t ∷ ζ c ∷ ζ a ∷ ζ v ∷ ζ t ∷ ζ st ∷ ζ en ∷ ζ s ∷ pos 0 ∷ pos 0 ∷ pos 0 ∷ pos 0 ∷ []))
-    b2l h k = record {
-      is = (λ i. L1 (to_z-of_z T i) (to_z-of_z C i) (to_z-of_z A i) (to_z-of_z Vv i) ++ (run (pt (to_z-of_z T i) (est i)) (pt (to_z-of_z T i) (een i)) (of_z w16 (to_z-of_z S i)) ∷ []))
-          ∙ sym (rw (left true h, right false k));
-      stored = cons (ap ζ (to_z-of_z Vv)) (cons (ap ζ (to_z-of_z S)) nil);
-      placed = cons (to_z-of_z T) (cons (to_z-of_z T) nil);
-    }
-
-    pub b2r : false ≡ left_of (ζ c) (of_z w16 (ζ v)) (ζ a) (of_z w16 (ζ s)) → true ≡ right_of (ζ d) (of_z w16 (ζ z)) (ζ b) (of_z w16 (ζ s))
-        → Built t c v d z a b s (fours 2 (ζ t ∷ ζ st ∷ ζ en ∷ ζ s ∷ ζ t ∷ ζ b ∷ ζ d ∷ ζ z ∷ pos 0 ∷ pos 0 ∷ pos 0 ∷ pos 0 ∷ []))
-    b2r h k = record {
-      is = (λ i. run (pt (to_z-of_z T i) (est i)) (pt (to_z-of_z T i) (een i)) (of_z w16 (to_z-of_z S i)) ∷ L1 (to_z-of_z T i) (to_z-of_z B i) (to_z-of_z D i) (to_z-of_z Z i))
-          ∙ sym (rw (left false h, right true k));
-      stored = cons (ap ζ (to_z-of_z S)) (cons (ap ζ (to_z-of_z Z)) nil);
-      placed = cons (to_z-of_z T) (cons (to_z-of_z T) nil);
-    }
-
-    pub b1 : false ≡ left_of (ζ c) (of_z w16 (ζ v)) (ζ a) (of_z w16 (ζ s)) → false ≡ right_of (ζ d) (of_z w16 (ζ z)) (ζ b) (of_z w16 (ζ s))
-        → Built t c v d z a b s (fours 1 (ζ t ∷ ζ st ∷ ζ en ∷ ζ s ∷ pos 0 ∷ pos 0 ∷ pos 0 ∷ pos 0 ∷ pos 0 ∷ pos 0 ∷ pos 0 ∷ pos 0 ∷ []))
-    b1 h k = record {
-      is = (λ i. run (pt (to_z-of_z T i) (est i)) (pt (to_z-of_z T i) (een i)) (of_z w16 (to_z-of_z S i)) ∷ []) ∙ sym (rw (left false h, right false k));
-      stored = cons (ap ζ (to_z-of_z S)) nil;
-      placed = cons (to_z-of_z T) nil;
-    }
+-- the painted record, between what is left of the first record that it reaches and of the last
+pub built : (t c v d z a b s : ℤ) (left right : Bool) → left ≡ left_of c (of_z w16 v) a (of_z w16 s) → right ≡ left_of b (of_z w16 s) d (of_z w16 z) → ζ v ≡ v → ζ z ≡ z → ζ s ≡ s
+    → Built t c v d z a b s (cond left (four t c a v ∷ []) [] ++ (four t (start_of c (of_z w16 v) a (of_z w16 s)) (end_of d (of_z w16 z) b (of_z w16 s)) s ∷ cond right (four t b d z ∷ []) []))
+built t c v d z a b s true true h k V Z S = record { is = rw (← h, ← k); stored = cons V (cons S (cons Z nil)); placed = cons refl (cons refl (cons refl nil)) }
+built t c v d z a b s true false h k V Z S = record { is = rw (← h, ← k); stored = cons V (cons S nil); placed = cons refl (cons refl nil) }
+built t c v d z a b s false true h k V Z S = record { is = rw (← h, ← k); stored = cons S (cons Z nil); placed = cons refl (cons refl nil) }
+built t c v d z a b s false false h k V Z S = record { is = rw (← h, ← k); stored = cons S nil; placed = cons refl nil }
 
 -- ---- from the first and the last record to `new`
 
@@ -99,10 +45,10 @@ lstart_is t c a q v s ms = go (test (lt_z c a)) (test (eqb v s))
     go (yea e) (nay i) = rw (int_linear.irr t, e, i)
     go (nay e) i = rw (int_linear.irr t, e)
 
-rtail_is : (t d b : ℤ) (p : Point ℤ) (z s : ℕ) (ms : List Rn) → rtail lx (pt t b) s (ms ++ (run p (pt t d) z ∷ [])) ≡ cond (right_of d z b s) (run (pt t b) (pt t d) z ∷ []) []
+rtail_is : (t d b : ℤ) (p : Point ℤ) (z s : ℕ) (ms : List Rn) → rtail lx (pt t b) s (ms ++ (run p (pt t d) z ∷ [])) ≡ cond (left_of b s d z) (run (pt t b) (pt t d) z ∷ []) []
 rtail_is t d b p z s [] = go (test (lt_z b d)) (test (eqb s z))
   where
-    go : Test (lt_z b d) → Test (eqb s z) → rtail lx (pt t b) s (run p (pt t d) z ∷ []) ≡ cond (right_of d z b s) (run (pt t b) (pt t d) z ∷ []) []
+    go : Test (lt_z b d) → Test (eqb s z) → rtail lx (pt t b) s (run p (pt t d) z ∷ []) ≡ cond (left_of b s d z) (run (pt t b) (pt t d) z ∷ []) []
     go (yea e) (yea i) = rw (int_linear.irr t, e, i)
     go (yea e) (nay i) = rw (int_linear.irr t, e, i)
     go (nay e) i = rw (int_linear.irr t, e)
@@ -157,26 +103,13 @@ module _ (l : List ℤ) (i j : ℕ) (t a b s : ℤ) (h : i < j) (k : 4 * j ≤ l
       ap (lrem lx (pt t a) s') mid_first ∙ lrem_is t X.start a (pt X.track X.end) v s' r1 in
       let p2 : lstart lx (pt t a) s' (runs (fours (j - i) (drop (4 * i) l))) ≡ pt t (start_of X.start v a s') =
       ap (lstart lx (pt t a) s') mid_first ∙ lstart_is t X.start a (pt X.track X.end) v s' r1 in
-      let p3 : rtail lx (pt t b) s' (runs (fours (j - i) (drop (4 * i) l))) ≡ cond (right_of Y.end z b s') (run (pt t b) (pt t Y.end) z ∷ []) [] =
+      let p3 : rtail lx (pt t b) s' (runs (fours (j - i) (drop (4 * i) l))) ≡ cond (left_of b s' Y.end z) (run (pt t b) (pt t Y.end) z ∷ []) [] =
       ap (rtail lx (pt t b) s') mid_last ∙ rtail_is t Y.end b (pt Y.track Y.start) z s' r2 in
       let p4 : rend lx (pt t b) s' (runs (fours (j - i) (drop (4 * i) l))) ≡ pt t (end_of Y.end z b s') =
       ap (rend lx (pt t b) s') mid_last ∙ rend_is t Y.end b (pt Y.track Y.start) z s' r2 in
       record { is = q.is ∙ sym (λ m. p1 m ++ (run (p2 m) (p4 m) s' ∷ p3 m)); stored = q.stored; placed = q.placed }
 
 -- no record is reached
-pub alone : (l : List ℤ) (i j : ℕ) (t a b s : ℤ) → SFits w16 t → SFits w16 a → SFits w16 b → SFits w16 s → j - i ≡ 0
-    → Pieced t a b (of_z w16 s) (fours (j - i) (drop (4 * i) l)) (fours 1 (ζ t ∷ ζ a ∷ ζ b ∷ ζ s ∷ pos 0 ∷ pos 0 ∷ pos 0 ∷ pos 0 ∷ pos 0 ∷ pos 0 ∷ pos 0 ∷ pos 0 ∷ []))
-alone l i j t a b s T A B S e = record {
-  is = (λ m. run (pt (to_z-of_z T m) (to_z-of_z A m)) (pt (to_z-of_z T m) (to_z-of_z B m)) (of_z w16 (to_z-of_z S m)) ∷ []) ∙ sym (ap (λ (k : ℕ). new lx (pt t a) (pt t b) (of_z w16 s) (runs (fours k (drop (4 * i) l)))) e);
-  stored = cons (ap ζ (to_z-of_z S)) nil;
-  placed = cons (to_z-of_z T) nil;
-}
-
-pub one_alone : (l : List ℤ) (i j : ℕ) (t a b s : ℤ) → SFits w16 s → j - i ≡ 0 → Pieced t a b (of_z w16 s) (fours (j - i) (drop (4 * i) l)) (four t a b s ∷ [])
-one_alone l i j t a b s S e =
-    record { is = sym (ap (λ (k : ℕ). new lx (pt t a) (pt t b) (of_z w16 s) (runs (fours k (drop (4 * i) l)))) e); stored = cons (to_z-of_z S) nil; placed = cons refl nil }
-
--- a callee speaks of its arguments as read back
-pub plain : {t c v d z a b s : ℤ} (put : List Four) → SFits w16 t → SFits w16 c → SFits w16 v → SFits w16 d → SFits w16 z → SFits w16 a → SFits w16 b → SFits w16 s
-    → Built (ζ t) (ζ c) (ζ v) (ζ d) (ζ z) (ζ a) (ζ b) (ζ s) put → Built t c v d z a b s put
-plain put T C Vv D Z A B S q = rw (to_z-of_z T, to_z-of_z C, to_z-of_z Vv, to_z-of_z D, to_z-of_z Z, to_z-of_z A, to_z-of_z B, to_z-of_z S) at q
+pub alone : (l : List ℤ) (i j : ℕ) (t a b s : ℤ) → ζ s ≡ s → j - i ≡ 0 → Pieced t a b (of_z w16 s) (fours (j - i) (drop (4 * i) l)) (four t a b s ∷ [])
+alone l i j t a b s S e =
+    record { is = sym (ap (λ (k : ℕ). new lx (pt t a) (pt t b) (of_z w16 s) (runs (fours k (drop (4 * i) l)))) e); stored = cons S nil; placed = cons refl nil }

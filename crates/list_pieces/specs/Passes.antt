@@ -3,17 +3,11 @@ use Rattle.std.specs.Prelude.{◌≡◌, Bool, false, cond, ◌||◌, List, [], 
 use Rattle.std.specs.Int.Signed.{lt_z}
 use Rattle.std.specs.Int.{w16}
 use Rattle.std.proofs.Common.{of_z}
-use Rattle.theory_intervals.proofs.Line.{◌≺◌}
 use Rattle.theory_intervals.specs.OverInt.{span}
 use Rattle.theory_intervals.specs.Cut.{Rn, P, H, N, sw}
-use Rattle.theory_intervals.proofs.Tracks.{OK, K}
+use Rattle.theory_intervals.proofs.Tracks.{K}
 use Rattle.list_moves.specs.Fours.{Four, fours, Laid}
 use Rattle.list_pieces.specs.Reach.{runs, Stored}
-
--- a good area along the track: start before end, and a state of a record
-pub record Good (a b s : ℤ) : Type 0 where
-  pub less : ◌≺◌ lt_z a b
-  pub state : OK (of_z w16 s)
 
 -- the records are on track t or a later one
 pub data Above (t : ℤ) : List Four → Type 0 where

@@ -35,7 +35,8 @@ abbrev pub after_early : List ℤ → ℤ → ℤ → ℕ → ℕ → ℕ
 after_early l t a s zero = zero
 after_early l t a s (suc i) = cond (early_r (four_at l (4 * i)) t a s) (suc i) (after_early l t a s i)
 
--- where the painted run starts, and whether something is left before it: c and v are the start and the state of the first record that is reached
+-- where the painted run starts, and whether something is left before it: c and v are the start and the state of the first record that is reached.
+-- What is left behind it is told by the same test, from the paint's end to the last record's
 abbrev pub start_of : ℤ → ℕ → ℤ → ℕ → ℤ
 start_of c v a s = cond (lt_z c a) (cond (eqb v s) c a) a
 
@@ -44,9 +45,6 @@ left_of c v a s = cond (lt_z c a) (not (eqb v s)) false
 
 abbrev pub end_of : ℤ → ℕ → ℤ → ℕ → ℤ
 end_of d v b s = cond (lt_z b d) (cond (eqb s v) d b) b
-
-abbrev pub right_of : ℤ → ℕ → ℤ → ℕ → Bool
-right_of d v b s = cond (lt_z b d) (not (eqb s v)) false
 
 -- each state is what its bits say, as is so of every number that code stores
 pub data Stored : List Four → Type 0 where
@@ -68,7 +66,7 @@ pub record Pieced (t a b : ℤ) (s : ℕ) (mid put : List Four) : Type 0 where
 pub record Built (t c v d z a b s : ℤ) (put : List Four) : Type 0 where
   pub is : runs put ≡ cond (left_of c (of_z w16 v) a (of_z w16 s)) (run (pt t c) (pt t a) (of_z w16 v) ∷ []) []
       ++ (run (pt t (start_of c (of_z w16 v) a (of_z w16 s))) (pt t (end_of d (of_z w16 z) b (of_z w16 s))) (of_z w16 s)
-      ∷ cond (right_of d (of_z w16 z) b (of_z w16 s)) (run (pt t b) (pt t d) (of_z w16 z) ∷ []) [])
+      ∷ cond (left_of b (of_z w16 s) d (of_z w16 z)) (run (pt t b) (pt t d) (of_z w16 z) ∷ []) [])
   pub stored : Stored put
   pub placed : AllOn t put
 
@@ -81,10 +79,12 @@ pub record OnTrack (l : List ℤ) (i j : ℕ) (t : ℤ) : Type 0 where
 abbrev pub Apart : List ℤ → ℕ → ℤ → ℤ → ℤ → ℕ → Type 0
 Apart l n t a b s = OnTrack l (after_early l t a s (before_late l t b s n)) (before_late l t b s n) t
 
--- of the first n records, those from i on below j are reached, and the first m of `put` are what becomes of them
+-- of the first n records, those from i on below j are reached, and the m of `put` are what becomes of them
 pub record Reaches (l : List ℤ) (n : ℕ) (t a b : ℤ) (s : ℕ) (i j m : ℕ) (put : List ℤ) : Type 0 where
   pub past : j ≡ before_late l t b s n
   pub first : i ≡ after_early l t a s j
+  pub low : i ≤ j
+  pub high : j ≤ n
   pub few : m ≤ 3
-  pub long : length put ≡ 12
+  pub long : length put ≡ 4 * m
   pub become : Pieced t a b s (fours (j - i) (drop (4 * i) l)) (fours m put)

@@ -6,12 +6,14 @@ ghost use Rattle.theory_intervals.specs.Paint.{pt};
 ghost use Rattle.list_moves.specs.Fours.{four_at};
 ghost use Rattle.theory_intervals.specs.Cut.{gapb, lx};
 ghost use Rattle.list_pieces.specs.Reach.{early_r, late_r, before_late, after_early};
-ghost use Rattle.theory_intervals.specs.Lists.{Holds};
 ghost use Rattle.list_pieces.specs.Passes.{Tail};
 
+use list_areas::Stroke;
+use list_rules::Records;
 use list_tracks::lower;
 
-// Reading order: by track, then position.
+// Reading order: by track, then position. Written out since the searches below spend their time here: with `<` of tuples they take almost three times
+// as long.
 fn before(t: i16, p: i16, u: i16, q: i16) -> bool
     ensures { result ≡ lx (pt t p) (pt u q) }
 {
@@ -28,75 +30,72 @@ fn before(t: i16, p: i16, u: i16, q: i16) -> bool
 fn gap(t: i16, p: i16, v: i16, u: i16, q: i16, s: i16) -> bool
     ensures { result ≡ gapb lx (pt t p) (of_z w16 v) (pt u q) (of_z w16 s) }
 {
-    if before(t, p, u, q) {
-        return true;
-    }
-    if before(u, q, t, p) {
-        return false;
-    }
-    v != s
+    before(t, p, u, q) || !before(u, q, t, p) && v != s
 }
 
-// The record at `at` ends before the lines from a on of track t, and may stand there beside them.
-fn early(list: &[i16], at: usize, t: i16, a: i16, s: i16) -> bool
+// The record at `at` ends before the area on track t, and may stand there beside it.
+fn early(list: &[i16], at: usize, t: i16, stroke: Stroke) -> bool
     requires { at + 4 ≤ length list.now }
-    ensures { result ≡ early_r (four_at list.now at) t a (of_z w16 s) }
+    ensures { result ≡ early_r (four_at list.now at) t stroke.start (of_z w16 stroke.state) }
 {
-    let u = list[at];
-    let d = list[at + 2];
-    let v = list[at + 3];
-    gap(u, d, v, t, a, s)
+    gap(
+        list[at],
+        list[at + 2],
+        list[at + 3],
+        t,
+        stroke.start,
+        stroke.state,
+    )
 }
 
-// The record at `at` starts behind the lines to b of track t, and may stand there beside them.
-fn late(list: &[i16], at: usize, t: i16, b: i16, s: i16) -> bool
+// The record at `at` starts behind the area on track t, and may stand there beside it.
+fn late(list: &[i16], at: usize, t: i16, stroke: Stroke) -> bool
     requires { at + 4 ≤ length list.now }
-    ensures { result ≡ late_r (four_at list.now at) t b (of_z w16 s) }
+    ensures { result ≡ late_r (four_at list.now at) t stroke.end (of_z w16 stroke.state) }
 {
-    let u = list[at];
-    let c = list[at + 1];
-    let v = list[at + 3];
-    gap(t, b, s, u, c, v)
+    gap(
+        t,
+        stroke.end,
+        stroke.state,
+        list[at],
+        list[at + 1],
+        list[at + 3],
+    )
 }
 
 // How many of the first n records there are before those at the end that are late.
-pub fn before_late(list: &[i16], n: usize, t: i16, b: i16, s: i16) -> usize
+#[tactic(auto, using(crate::proofs::Bits::last_yes, crate::proofs::Bits::last_no))]
+pub fn before_late(list: &[i16], n: usize, t: i16, stroke: Stroke) -> usize
     requires { 4 * n ≤ length list.now }
-    ensures { result ≡ before_late list.now t b (of_z w16 s) n }
+    ensures within { result ≤ n }
+    ensures value { result ≡ before_late list.now t stroke.end (of_z w16 stroke.state) n }
 {
-    let mut i = n;
-    while 0 < i {
-        if late(list, 4 * (i - 1), t, b, s) {
-            i -= 1;
-        } else {
-            return i;
+    for i in (0..n).rev() {
+        if !late(list, 4 * i, t, stroke) {
+            return i + 1;
         }
     }
     0
 }
 
 // How many of the first n records there are up to the last that is early.
-pub fn after_early(list: &[i16], n: usize, t: i16, a: i16, s: i16) -> usize
+#[tactic(auto, using(crate::proofs::Bits::first_yes, crate::proofs::Bits::first_no))]
+pub fn after_early(list: &[i16], n: usize, t: i16, stroke: Stroke) -> usize
     requires { 4 * n ≤ length list.now }
-    ensures { result ≡ after_early list.now t a (of_z w16 s) n }
+    ensures within { result ≤ n }
+    ensures value { result ≡ after_early list.now t stroke.start (of_z w16 stroke.state) n }
 {
-    let mut i = n;
-    while 0 < i {
-        if early(list, 4 * (i - 1), t, a, s) {
-            return i;
-        } else {
-            i -= 1;
+    for i in (0..n).rev() {
+        if early(list, 4 * i, t, stroke) {
+            return i + 1;
         }
     }
     0
 }
 
 // How many records lie on tracks from `track` on: they are the last ones, and found by halving.
-pub fn records_behind(list: &[i16], used: usize, track: i16) -> usize
-    requires { Holds list.now used }
-    ensures { Tail list.now used result track }
+pub fn records_behind(records: Records, track: i16) -> usize
+    ensures { Tail records.entry.list.now records.entry.used result track }
 {
-    let x = track as i32;
-    let k = lower(list, 0, used, x);
-    used - k
+    records.used - lower(records, 0, track as i32)
 }

@@ -1,12 +1,16 @@
 -- A flat list by the places of its records, as code reads it, and the list rules there.
-use mathlib.Core.Path.{◌≡◌, refl, sym, ap, subst}
-use mathlib.Core.Bool.{true, false, not, ◌&&◌, ◌||◌}
+use Rattle.std.specs.Prelude.{None, Some}
+use Rattle.std.specs.Bool.{then_some}
+use Rattle.std.specs.List.{list_all}
+use Rattle.std.proofs.lemmas.List.{get_or-drop, length-drop}
+use mathlib.Core.Path.{◌≡◌, refl, sym, ◌∙◌, ap, subst}
+use mathlib.Core.Bool.{Bool, true, false, not, ◌&&◌, ◌||◌}
 use mathlib.Core.List.{List, [], ◌∷◌, ◌++◌}
 use mathlib.Core.Logic.{◌≢◌}
 use Prim.Native.Nat.{ℕ, zero, suc, ◌+◌, ◌-◌, ◌*◌, ◌<◌, ◌≤◌}
 use native.Mathlib.Omega.{arith}
 use lib.Dec.{eqb, ltb}
-use lib.ListN.{length, get_or, replicate, length-append}
+use lib.ListN.{length, get_or, drop, replicate, length-append}
 use lib.IntN.{ℤ, pos, negsuc, nat_abs}
 use lib.Signed.{lt_z, non_neg, ◌≤ℤ◌}
 use borrow.Author.Tests.{eqb-true, eqb-false, eq-eqb, ltb-true, ltb-false}
@@ -18,12 +22,11 @@ use Rattle.theory_intervals.proofs.Grid.{and_l, and_r, and_i}
 use Rattle.theory_intervals.specs.OverInt.{encode, ok, keeps, decode, flat, is_flat, digits, is_zero}
 use Rattle.theory_intervals.proofs.Flat.{length_encode}
 use Rattle.theory_intervals.proofs.Index.{ruled_keeps, keeps_ruled, counted}
-use Rattle.theory_intervals.proofs.OverInt.{digit_laws}
+use Rattle.theory_intervals.proofs.OverInt.{digit_laws, is_zero_is}
 use Rattle.theory_intervals.specs.Lists.{in_grid, all_in, rules, recs, Holds, used, kept}
 use Rattle.theory_intervals.proofs.Lists.{is_in, in_is, all_in_lem, in_all, length_recs, recs_enc, kept_holds}
 use Rattle.list_rules.specs.Kept.{kept_of}
-use Rattle.list_rules.specs.Inner.{track_no, start_no, end_no, state_no, Good, may_follow, Goes, Front, Zeros}
-use Rattle.list_rules.specs.declared.Used.TheVariants.{Records, Broken}
+use Rattle.list_rules.specs.Inner.{track_no, start_no, end_no, state_no, Says, Good, may_follow, Goes, Front, Zeros}
 
 -- ---- one record
 
@@ -148,16 +151,16 @@ both_flat {l} {n} b = counted digits n l (record {
   free = λ j h k. zero_is (get_or l j (pos 0)) (b.zeros j h k);
 })
 
-pub both_kept : {l : List ℤ} {n : ℕ} → Both l n → kept_of l ≡ Records n
+pub both_kept : {l : List ℤ} {n : ℕ} → Both l n → kept_of l ≡ Some n
 unfolding kept_of
 both_kept {l} {n} b =
     let q = both_flat b in
-    rw (q.1, q.0, front_rules b.front) (ap Records (length_recs n l))
+    rw (q.1, q.0, front_rules b.front) (ap Some (length_recs n l))
 
 -- the answer by cases: a list is one of n records, or broken
 pub data Answer (l : List ℤ) : Type 0 where
-  holds : (n : ℕ) → Both l n → kept_of l ≡ Records n → Answer l
-  broken : kept_of l ≡ Broken → Answer l
+  holds : (n : ℕ) → Both l n → kept_of l ≡ Some n → Answer l
+  broken : kept_of l ≡ None → Answer l
 
 pub answer : (l : List ℤ) → Answer l
 unfolding kept_of
@@ -174,10 +177,10 @@ not_zero_good : {t a b s : ℤ} → Good t a b s → s ≡ pos 0 → ⊥
 not_zero_good g e = omega signed
 
 -- a front that cannot be longer, with something behind it that is not 0: broken
-pub front_broken : {l : List ℤ} {n : ℕ} → Front l n → (4 * n + 4 ≤ length l → Goes l n → ⊥) → (Zeros l (4 * n) → ⊥) → kept_of l ≡ Broken
+pub front_broken : {l : List ℤ} {n : ℕ} → Front l n → (4 * n + 4 ≤ length l → Goes l n → ⊥) → (Zeros l (4 * n) → ⊥) → kept_of l ≡ None
 front_broken {l} {n} f stop z = go (answer l)
   where
-    go : Answer l → kept_of l ≡ Broken
+    go : Answer l → kept_of l ≡ None
     go (broken e) = e
     go (holds m b e) = absurd (by (dec_lt n m) (dec_lt m n))
       where
@@ -185,6 +188,32 @@ front_broken {l} {n} f stop z = go (answer l)
         by (yes h) d = stop (omega (arith, b.front.room)) (more_goes b.front h)
         by (no h) (yes k) = not_zero_good (f.each m k).good (b.zeros (4 * m + 3) (omega arith) (omega (arith, f.room)))
         by (no h) (no k) = let e : m ≡ n = omega arith in z (subst (λ (x : ℕ). Zeros l (4 * x)) e b.zeros)
+
+-- a list of zeros, by its places
+zeros_all : (l : List ℤ) → Says (list_all is_zero l) (Zeros l 0)
+zeros_all [] = λ j h k. absurd (omega arith)
+zeros_all (z ∷ l) = go (test (is_zero z)) (test (list_all is_zero l)) (zeros_all l)
+  where
+    go : Test (is_zero z) → Test (list_all is_zero l) → Says (list_all is_zero l) (Zeros l 0) → Says (is_zero z && list_all is_zero l) (Zeros (z ∷ l) 0)
+    go (nay e) a r = rw e (λ h. no_both (zero_is z (h 0 (omega arith) (omega arith))) e)
+    go (yea e) (nay a) r = rw (e, a) (λ h. (rw a at r) (λ j m k. h (suc j) (omega arith) (omega arith)))
+    go (yea e) (yea a) r = rw (e, a) by_place
+      where
+        by_place : Zeros (z ∷ l) 0
+        by_place zero m k = is_zero_is z e
+        by_place (suc j) m k = (rw a at r) j (omega arith) (omega arith)
+
+-- the check's answer: a front that cannot be longer, and whether there are only zeros behind it
+pub kept_is : {l : List ℤ} {n : ℕ} → Front l n → (4 * n + 4 ≤ length l → Goes l n → ⊥) → then_some (list_all is_zero (drop (4 * n) l)) n ≡ kept_of l
+kept_is {l} {n} f stop = go (list_all is_zero (drop (4 * n) l)) (zeros_all (drop (4 * n) l))
+  where
+    go : (b : Bool) → Says b (Zeros (drop (4 * n) l) 0) → then_some b n ≡ kept_of l
+    go true z =
+        let behind : Zeros l (4 * n) = λ j a b.
+        let e : 4 * n + (j - 4 * n) ≡ j = omega arith in
+        sym (get_or-drop (4 * n) l (j - 4 * n) (pos 0) ∙ ap (λ (i : ℕ). get_or l i (pos 0)) e) ∙ z (j - 4 * n) (omega arith) (omega (arith, length-drop (4 * n) l)) in
+        sym (both_kept (record { front = f; zeros = behind }))
+    go false z = sym (front_broken f stop (λ behind. z (λ j a b. get_or-drop (4 * n) l j (pos 0) ∙ behind (4 * n + j) (omega arith) (omega (arith, length-drop (4 * n) l)))))
 
 pub holds_front : {l : List ℤ} {n : ℕ} → Holds l n → Front l n
 holds_front h = (holds_both h).front

@@ -23,7 +23,8 @@ use Rattle.list_moves.specs.Fours.{Four, fours}
 use Rattle.list_moves.proofs.Fours.{length_fours}
 use Rattle.list_pieces.specs.Reach.{runs, run_of, Apart, Reaches}
 use Rattle.list_pieces.proofs.Found.{Found, found, fours_add}
-use Rattle.list_pieces.specs.Passes.{Good, Above, Tail}
+use Rattle.list_areas.proofs.Good.{Good}
+use Rattle.list_pieces.specs.Passes.{Above, Tail}
 use Rattle.list_pieces.proofs.Above.{above_append, above_late, late_above, on_above}
 
 pub suc_of : (t u : ℤ) → u ≡ t -ℤ pos 1 → u +ℤ pos 1 ≡ t
@@ -92,12 +93,6 @@ module _ {l : List ℤ} {used : ℕ} {t₁ t₂ a b s t : ℤ} {r more less : �
   module _ {i j n : ℕ} {put : List ℤ} (p : Reaches l r T a b (of_z w16 s) i j n put) where
     c_found : Found l r T a b (of_z w16 s) W i j
     c_found = found l r T a b (of_z w16 s) W i j v.good.less v.good.state c_room keep late p.past p.first
-
-    pub c_low : i ≤ j
-    c_low = c_found.low
-
-    pub c_high : j ≤ r
-    c_high = c_found.high
 
     pub c_next : lt_z t₁ t ≡ true → CInv l used t₁ t₂ a b s T i (more + n) (less + (j - i))
     c_next z =

@@ -1,3 +1,4 @@
+pub mod Before
 pub mod Count
 pub mod Moves
 pub mod Sweeping

@@ -7,8 +7,8 @@ use native.Mathlib.Omega.{arith}
 use native.Mathlib.Nat.{zero-add, suc-add}
 use lib.Dec.{leb}
 use lib.IntN.{ℤ}
-use lib.ListN.{length, take, drop, length-drop, length-append, take-append-drop}
-use lib.Seq.{paste, length-paste, take-add}
+use lib.ListN.{length, take, drop, length-drop, length-append}
+use lib.Seq.{paste, length-paste}
 use mir.Syntax.{w16}
 use mir.Val.{of_z}
 use Rattle.theory_intervals.specs.Paint.{pt}
@@ -22,7 +22,8 @@ use Rattle.list_moves.proofs.Fours.{fours_paste, enc_fours, length_fours}
 use Rattle.list_pieces.specs.Reach.{runs, run_of, Stored, Apart, Reaches}
 use Rattle.list_pieces.proofs.Build.{map_append}
 use Rattle.list_pieces.proofs.Found.{Found, found}
-use Rattle.list_pieces.specs.Passes.{Good, Above, Gapped, Stepped, stepped, held}
+use Rattle.list_areas.proofs.Good.{Good}
+use Rattle.list_pieces.specs.Passes.{Above, Gapped, Stepped, stepped, held}
 use Rattle.list_pieces.proofs.Above.{above_append, late_above, all_on_above, stored_append, stored_l, stored_r}
 use Rattle.list_sweeps.proofs.Count.{halves, length_runs}
 
@@ -54,14 +55,6 @@ pub s_apart : {a b s t : ℤ} {l : List ℤ} {r w top : ℕ} → Gapped l r w to
 s_apart {a} {b} {s} {t} {l} {r} {w} {top} g good late =
     (found l r t a b (of_z w16 s) (fours (top - w) (drop (4 * w) l)) _ _ good.less good.state (omega (arith, g.low, g.high, g.room)) g.keep late refl refl).on
 
--- where a step stands: the records i..j are reached, those before r are left, and those from w to top are behind the gap
-pub record Within (l : List ℤ) (r w top i j : ℕ) : Type 0 where
-  pub first : i ≤ j
-  pub past : j ≤ r
-  pub low : r ≤ w
-  pub high : w ≤ top
-  pub room : 4 * top ≤ length l
-
 module _ (all : Bool) {a b s t : ℤ} {l : List ℤ} {r w top : ℕ} (g : Gapped l r w top) (good : Good a b s)
     (late : Late lx (pt t b) (of_z w16 s) (runs (fours (top - w) (drop (4 * w) l)))) {i j n : ℕ} {put : List ℤ} (q : Reaches l r t a b (of_z w16 s) i j n put) where
   abbrev σ : ℕ
@@ -84,9 +77,6 @@ module _ (all : Bool) {a b s t : ℤ} {l : List ℤ} {r w top : ℕ} (g : Gapped
 
   pub s_found : Found l r t a b σ W i j
   s_found = found l r t a b σ W i j good.less good.state (omega (arith, g.low, g.high, g.room)) g.keep late q.past q.first
-
-  pub s_within : Within l r w top i j
-  s_within = record { first = s_found.low; past = s_found.high; low = g.low; high = g.high; room = g.room }
 
   pub whole : fours r l ++ W ≡ pre ++ (mid ++ (post ++ W))
   whole = ap (λ (x : List Four). x ++ W) s_found.parts ∙ append_assoc pre (mid ++ post) W ∙ ap (λ (x : List Four). pre ++ x) (append_assoc mid post W)
@@ -172,21 +162,21 @@ module _ (all : Bool) {a b s t : ℤ} {l : List ℤ} {r w top : ℕ} (g : Gapped
           ∙ (λ k. length_fours i l k + (length-append (fours n put) (post ++ W) ∙ (λ z. length_fours n put z + (length-append post W ∙ (λ y. length_fours (r - j) (drop (4 * j) l) y + length_fours (top - w) (drop (4 * w) l) y)) z)) k) in
           omega (arith, ap length is_P, s_found.high, g.low, g.high)
 
-      module _ (y : List ℤ) (e' : y ≡ paste x (4 * (v - n)) put (4 * n)) where
+      module _ (y : List ℤ) (e' : y ≡ paste x (4 * (v - n)) put (length put)) where
         hx : 4 * (v - n + n) ≤ length x
         hx = omega (arith, fits, up_long, g.low, g.high, g.room)
 
         hp : 4 * n ≤ length put
-        hp = omega (arith, q.few, q.long)
+        hp = omega (arith, q.long)
 
         y_pre : fours i y ≡ pre
-        y_pre = m_pre x put y (v - n) n (4 * (v - n)) (4 * n) refl refl hx hp e' i (omega (arith, fits)) ∙ up_pre i s_found.low
+        y_pre = m_pre x put y (v - n) n (4 * (v - n)) (length put) refl q.long hx hp e' i (omega (arith, fits)) ∙ up_pre i s_found.low
 
         y_post : fours (top - (v - n)) (drop (4 * (v - n)) y) ≡ fours n put ++ (post ++ W)
         y_post =
             let h : top - (v - n) ≡ n + (top - v) = omega (arith, fits, g.high) in
             let z : v - n + n ≡ v = omega (arith, fits) in
-            (λ k. fours (h k) (drop (4 * (v - n)) y)) ∙ m_post x put y (v - n) n (4 * (v - n)) (4 * n) refl refl hx hp e' (top - v)
+            (λ k. fours (h k) (drop (4 * (v - n)) y)) ∙ m_post x put y (v - n) n (4 * (v - n)) (length put) refl q.long hx hp e' (top - v)
             ∙ ap (λ (m : ℕ). fours n put ++ fours (top - v) (drop (4 * m) x)) z ∙ ap (λ (m : List Four). fours n put ++ m) up_post
 
         y_all : fours i y ++ fours (top - (v - n)) (drop (4 * (v - n)) y) ≡ pre ++ (fours n put ++ (post ++ W))
@@ -205,19 +195,14 @@ module _ (all : Bool) {a b s t : ℤ} {l : List ℤ} {r w top : ℕ} (g : Gapped
             stored = subst Stored (sym y_all) (stored_append (fours n put ++ (post ++ W)) (stored_l pre (mid ++ (post ++ W)) tagged) (stored_append (post ++ W) q.become.stored (stored_r mid (post ++ W) (stored_r pre (mid ++ (post ++ W)) tagged))));
           };
           long = y_long ∙ up_long;
-          tail = m_past x put y (v - n) n (4 * (v - n)) (4 * n) refl refl hx hp e' w (omega (arith, fits)) ∙ up_tail;
+          tail = m_past x put y (v - n) n (4 * (v - n)) (length put) refl q.long hx hp e' w (omega (arith, fits)) ∙ up_tail;
           is = y_is ∙ sym is_P;
           above = subst (Above t) (sym y_post) (above_append (post ++ W) (all_on_above q.become.placed) (late_above t b σ (post ++ W) s_found.behind));
           down = omega arith;
         }
           where
             y_long : length y ≡ length x
-            y_long = m_long x put y (v - n) n (4 * (v - n)) (4 * n) refl refl hx hp e'
+            y_long = m_long x put y (v - n) n (4 * (v - n)) (length put) refl q.long hx hp e'
 
             tagged : Stored (pre ++ (mid ++ (post ++ W)))
             tagged = subst Stored whole g.stored
-
--- what is pasted where it was changes nothing
-pub paste_self : (l : List ℤ) (from at m : ℕ) → at ≡ from → l ≡ paste l at (drop from l) m
-paste_self l from at m e =
-    sym (take-append-drop (from + m) l) ∙ (λ i. take-add from m l i ++ drop (from + m) l) ∙ (λ i. take (sym e i) l ++ take m (drop from l) ++ drop (sym e i + m) l)

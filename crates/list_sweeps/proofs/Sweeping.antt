@@ -19,7 +19,7 @@ use Rattle.theory_intervals.proofs.Tracks.{K}
 use Rattle.theory_intervals.proofs.Spans.{span_none, span_cons}
 use Rattle.list_moves.specs.Fours.{Four, fours}
 use Rattle.list_pieces.specs.Reach.{runs, Stored}
-use Rattle.list_pieces.specs.Passes.{Good, Above, Gapped, Stepped, stepped, held, Ready, Roomy, Tail}
+use Rattle.list_pieces.specs.Passes.{Above, Gapped, Stepped, stepped, held, Ready, Roomy, Tail}
 use Rattle.list_pieces.proofs.Above.{above_late}
 use Rattle.list_sweeps.proofs.Count.{halves, suc_of}
 use Rattle.list_sweeps.proofs.Moves.{m_long, m_pre, m_past, m_post}
@@ -88,7 +88,6 @@ module _ {l : List ℤ} {used behind top : ℕ} {t₂ : ℤ} (R : Ready l used t
 
 -- the tracks from t on are swept; x₀ is the list at the start, with its gap from r₀ to w₀
 pub record SInv (all : Bool) (x₀ : List ℤ) (r₀ w₀ top : ℕ) (t₁ t₂ a b s : ℤ) (list : List ℤ) (r w : ℕ) (t : ℤ) : Type 0 where
-  pub good : Good a b s
   pub roomy : Roomy all a b s t₁ t₂ top (held x₀ r₀ w₀ top)
   pub gapped : Gapped list r w top
   pub long : length list ≡ length x₀
@@ -99,13 +98,12 @@ pub record SInv (all : Bool) (x₀ : List ℤ) (r₀ w₀ top : ℕ) (t₁ t₂ 
   pub low : lt_z t t₁ ≡ false
   pub high : lt_z t₂ t ≡ false
 
-pub s_start : (all : Bool) {l : List ℤ} {used behind top : ℕ} (t₁ : ℤ) {t₂ : ℤ} (a b s : ℤ) {x : List ℤ} → Lifted l used behind top t₂ x → Good a b s → Roomy all a b s t₁ t₂ top (runs (fours used l)) → lt_z t₁ t₂ ≡ true
+pub s_start : (all : Bool) {l : List ℤ} {used behind top : ℕ} (t₁ : ℤ) {t₂ : ℤ} (a b s : ℤ) {x : List ℤ} → Lifted l used behind top t₂ x → Roomy all a b s t₁ t₂ top (runs (fours used l)) → lt_z t₁ t₂ ≡ true
     → SInv all x (used - behind) (top - behind) top t₁ t₂ a b s x (used - behind) (top - behind) t₂
-s_start all {l} {used} {behind} {top} t₁ {t₂} a b s {x} L g o z =
+s_start all {l} {used} {behind} {top} t₁ {t₂} a b s {x} L o z =
     let n : span t₂ t₂ ≡ [] = span_none t₂ t₂ (omega signed) in
     let k : top - (top - behind) ≡ behind = omega (arith, L.rest.few, L.ready.low) in
     record {
-      good = g;
       roomy = subst (λ (y : List Four). Roomy all a b s t₁ t₂ top (runs y)) (sym L.all) o;
       gapped = record {
         low = omega (arith, L.rest.few, L.ready.low);
@@ -136,7 +134,6 @@ module _ {all : Bool} {x₀ : List ℤ} {r₀ w₀ top : ℕ} {t₁ t₂ a b s :
 
     pub s_next : (x : List ℤ) (r' w' : ℕ) → Stepped all a b s T list r w top x r' w' → SInv all x₀ r₀ w₀ top t₁ t₂ a b s x r' w' T
     s_next x r' w' q = record {
-      good = v.good;
       roomy = v.roomy;
       gapped = q.gapped;
       long = q.long ∙ v.long;

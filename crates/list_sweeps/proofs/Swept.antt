@@ -9,17 +9,15 @@ use lib.Signed.{lt_z}
 use lib.ListN.{length, drop, replicate, length-append}
 use lib.Seq.{paste, drop-drop, drop_at}
 use mir.Syntax.{w16}
-use mir.Val.{of_z, SFits}
-use mir.Facts.{to_z-of_z}
+use mir.Val.{of_z}
 use Rattle.theory_signed.proofs.Laws.{signed}
 use Rattle.theory_intervals.specs.OverInt.{span}
-use Rattle.theory_intervals.specs.Cut.{Rn, PT, sw}
+use Rattle.theory_intervals.specs.Cut.{sw}
 use Rattle.list_moves.specs.Fours.{Four, padded, fours, Laid}
 use Rattle.list_moves.proofs.Parts.{drop_replicate}
 use Rattle.list_moves.proofs.Fours.{enc_fours, length_fours, wiped, fours_enc, laid_padded, length_padded}
 use Rattle.list_pieces.specs.Reach.{runs, Stored}
-use Rattle.list_pieces.specs.Passes.{Above, Gapped, Roomy, Swept, Tail}
-use Rattle.list_pieces.proofs.Bits.{ζ}
+use Rattle.list_pieces.specs.Passes.{Above, Gapped, Swept, Tail}
 use Rattle.list_sweeps.proofs.Count.{halves}
 use Rattle.list_sweeps.proofs.Sweeping.{Lifted, SInv, drop_later, down_long, down_all, down_past}
 
@@ -94,20 +92,3 @@ module _ {all : Bool} {l : List ℤ} {used behind top : ℕ} {t₁ t₂ a b s : 
       let same : fours behind (drop (4 * (n - behind)) y) ≡ fours behind (drop (4 * (top - behind)) list) =
       rests (fours (n - behind) y) front (n - behind) (length_fours (n - behind) y) (omega (arith, lf, hind)) (sym own ∙ all) in
       record { few = omega (arith, hind); above = subst (Above t₂) (sym (same ∙ ap (fours behind) v.tail)) L.last }
-
-pub roomy_back : {all : Bool} {a b s t₁ t₂ : ℤ} {top : ℕ} {rs : List Rn} → SFits w16 a → SFits w16 b → SFits w16 s → SFits w16 t₁ → SFits w16 t₂ → Roomy all a b s t₁ t₂ top rs → Roomy all (ζ a) (ζ b) (ζ s) (ζ t₁) (ζ t₂) top rs
-roomy_back f g h k m r = rw (to_z-of_z f, to_z-of_z g, to_z-of_z h, to_z-of_z k, to_z-of_z m) r
-
-pub swept_plain : {all : Bool} {a b s t₁ t₂ : ℤ} {l : List ℤ} {used : ℕ} {x : List ℤ} {n : ℕ} → SFits w16 a → SFits w16 b → SFits w16 s → SFits w16 t₁ → SFits w16 t₂
-    → Swept all (ζ a) (ζ b) (ζ s) (ζ t₁) (ζ t₂) l used x n → Swept all a b s t₁ t₂ l used x n
-swept_plain f g h k m r = rw (to_z-of_z f, to_z-of_z g, to_z-of_z h, to_z-of_z k, to_z-of_z m) at r
-
-pub total_plain : {a b s t₁ t₂ : ℤ} (rs : List Rn) {n : ℕ} → SFits w16 a → SFits w16 b → SFits w16 s → SFits w16 t₁ → SFits w16 t₂
-    → n ≡ length (PT (ζ a) (ζ b) (of_z w16 (ζ s)) (span (ζ t₁) (ζ t₂)) rs) → n ≡ length (PT a b (of_z w16 s) (span t₁ t₂) rs)
-total_plain rs f g h k m r = rw (to_z-of_z f, to_z-of_z g, to_z-of_z h, to_z-of_z k, to_z-of_z m) at r
-
-pub tail_back : {l : List ℤ} {n k : ℕ} {t : ℤ} → SFits w16 t → Tail l n k t → Tail l n k (ζ t)
-tail_back f q = rw (to_z-of_z f) q
-
-pub tail_plain : {l : List ℤ} {n k : ℕ} {t : ℤ} → SFits w16 t → Tail l n k (ζ t) → Tail l n k t
-tail_plain f q = rw (to_z-of_z f) at q

@@ -1,18 +1,17 @@
 // Tracks painted one behind the other, by a sweep over the records behind them.
 #![tactic(auto)]
 
-ghost use Rattle.std.specs.Prelude.{◌≡◌, ◌+◌, ◌-◌, ◌*◌, ◌≤◌, ◌<◌, length, drop, true, ◌||◌, leb};
-ghost use Rattle.std.specs.Int.Signed.{lt_z};
+ghost use Rattle.std.specs.Prelude.{◌≡◌, ◌+◌, ◌-◌, ◌*◌, ◌≤◌, length, drop, ◌||◌, leb};
 ghost use Rattle.std.proofs.Common.{of_z};
 ghost use Rattle.std.specs.Int.{w16};
 ghost use Rattle.theory_intervals.specs.Paint.{pt};
 ghost use Rattle.list_moves.specs.Fours.{fours};
 ghost use Rattle.theory_intervals.specs.Cut.{lx};
 ghost use Rattle.list_pieces.specs.Reach.{runs};
-ghost use Rattle.std.proofs.Math.Seq.{paste};
 ghost use Rattle.theory_intervals.proofs.Split.{Late};
-ghost use Rattle.list_pieces.specs.Passes.{Good, Gapped, Stepped, stepped, held, Ready, Roomy, Swept, Tail};
+ghost use Rattle.list_pieces.specs.Passes.{Gapped, Stepped, stepped, held, Ready, Roomy, Swept, Tail};
 
+use list_areas::Area;
 use list_moves::{move_down, move_up, put_in, wipe};
 use list_pieces::pieces::cut_track;
 
@@ -20,74 +19,35 @@ use list_pieces::pieces::cut_track;
 fn wanted(all: bool, n: usize, k: usize) -> bool
     ensures { result ≡ (all || leb n k) }
 {
-    if all {
-        return true;
-    }
-    n <= k
+    all || n <= k
 }
 
-// `move_up`, for nothing where there is nothing to do.
-pub fn lift(list: &mut [i16], from: usize, used: usize, by: usize)
-    requires from_le_used { from ≤ used }
-    requires by_in_bounds { used + by ≤ length list.old }
-    ensures { list.new ≡ paste list.old (from + by) (drop from list.old) (used - from) }
-{
-    if by == 0 {
-        return;
-    }
-    move_up(list, from, used, by);
-}
-
-// `move_down`, likewise.
-fn sink(list: &mut [i16], from: usize, used: usize, by: usize)
-    requires by_le_from { by ≤ from }
-    requires from_le_used { from ≤ used }
-    requires used_in_bounds { used ≤ length list.old }
-    ensures { list.new ≡ paste list.old (from - by) (drop from list.old) (used - from) }
-{
-    if by == 0 {
-        return;
-    }
-    move_down(list, from, used, by);
-}
-
-// The list holds the records 0..r, a gap, and the records w..top.
+// The list holds the records before r, a gap, and the records from w to the end of its room.
 #[derive(Clone, Copy)]
-struct Place {
+struct Gap {
     pub r: usize,
     pub w: usize,
 }
 
 // One track of a sweep: the records behind the paint go up behind the gap, those that it reaches become what they become, and go up too.
-fn step(
-    list: &mut [i16],
-    r: usize,
-    w: usize,
-    top: usize,
-    t: i16,
-    a: i16,
-    b: i16,
-    s: i16,
-    all: bool,
-) -> Place
-    requires gapped { Gapped list.old r w top }
-    requires good { Good a b s }
-    requires late { Late lx (pt t b) (of_z w16 s) (runs (fours (top - w) (drop (4 * w) list.old))) }
-    requires top_len_bound { length (stepped all a b (of_z w16 s) t (held list.old r w top)) ≤ top }
-    ensures { Stepped all a b s t list.old r w top list.new result.r result.w }
+fn step(list: &mut [i16], gap: Gap, top: usize, t: i16, area: Area, all: bool) -> Gap
+    requires gapped { Gapped list.old gap.r gap.w top }
+    requires late { Late lx (pt t area.stroke.end) (of_z w16 area.stroke.state) (runs (fours (top - gap.w) (drop (4 * gap.w) list.old))) }
+    requires top_len_bound { length (stepped all area.stroke.start area.stroke.end (of_z w16 area.stroke.state) t (held list.old gap.r gap.w top)) ≤ top }
+    ensures { Stepped all area.stroke.start area.stroke.end area.stroke.state t list.old gap.r gap.w top list.new result.r result.w }
 {
-    let found = cut_track(list, r, t, a, b, s);
+    let Gap { r, w } = gap;
+    let found = cut_track(list, r, t, area.stroke);
     let i = found.first;
     let j = found.past;
-    let n = found.new;
-    let put = found.put;
-    lift(list, 4 * j, 4 * r, 4 * (w - r));
+    move_up(list, 4 * j, 4 * r, 4 * (w - r));
     let v = w - (r - j);
-    if wanted(all, n, j - i) {
-        put_in(list, 4 * (v - n), put, 4 * n);
-        return Place { r: i, w: v - n };
+    let n = found.pieces.count();
+    if !wanted(all, n, j - i) {
+        return Gap { r: j, w: v };
     }
-    Place { r: j, w: v }
+    put_in(list, 4 * (v - n), found.pieces.numbers());
+    Gap { r: i, w: v - n }
 }
 
 // All tracks of the area, from the last to the first; with `all` false those on which the records get no more. Then the gap is closed. The last
@@ -97,33 +57,25 @@ pub fn sweep(
     used: usize,
     behind: usize,
     top: usize,
-    t1: i16,
-    t2: i16,
-    a: i16,
-    b: i16,
-    s: i16,
+    area: Area,
     all: bool,
 ) -> usize
     requires ready { Ready list.old used top }
-    requires good { Good a b s }
-    requires t2_value { lt_z t1 t2 ≡ true }
-    requires roomy { Roomy all a b s t1 t2 top (runs (fours used list.old)) }
-    requires tail { Tail list.old used behind t2 }
-    ensures swept { Swept all a b s t1 t2 list.old used list.new result }
-    ensures tail_2 { Tail list.new result behind t2 }
+    requires roomy { Roomy all area.stroke.start area.stroke.end area.stroke.state area.track_start area.track_end top (runs (fours used list.old)) }
+    requires tail { Tail list.old used behind area.track_end }
+    ensures swept { Swept all area.stroke.start area.stroke.end area.stroke.state area.track_start area.track_end list.old used list.new result }
+    ensures tail_2 { Tail list.new result behind area.track_end }
 {
-    let mut r = used - behind;
-    let mut w = top - behind;
-    let mut t = t2;
-    lift(list, 4 * r, 4 * used, 4 * (top - used));
-    while t1 < t {
-        t -= 1;
-        let g = step(list, r, w, top, t, a, b, s, all);
-        r = g.r;
-        w = g.w;
+    let mut gap = Gap {
+        r: used - behind,
+        w: top - behind,
+    };
+    move_up(list, 4 * gap.r, 4 * used, 4 * (top - used));
+    for t in (area.track_start..area.track_end).rev() {
+        gap = step(list, gap, top, t, area, all);
     }
-    let n = r + (top - w);
-    sink(list, 4 * w, 4 * top, 4 * (w - r));
+    let n = gap.r + (top - gap.w);
+    move_down(list, 4 * gap.w, 4 * top, 4 * (gap.w - gap.r));
     wipe(list, 4 * n, 4 * top);
     n
 }

@@ -1,3 +1,4 @@
 pub mod Sorted
+pub mod Fours
 pub mod Named
 pub mod Standing

@@ -7,7 +7,10 @@ use native.Mathlib.Omega.{arith}
 use native.Mathlib.Decide.{ℕ_discrete}
 use lib.ListN.{length, get_or, take, drop}
 use lib.Seq.{drop-cons}
-use lib.IntN.{ℤ, pos, negsuc, nat_abs, ◌+ℤ◌}
+use lib.IntN.{ℤ, pos, nat_abs, ◌+ℤ◌}
+use mir.Syntax.{w16, w32}
+use mir.Val.{SFits, to_z, of_z}
+use mir.Facts.{to_z-of_z}
 use lib.Signed.{lt_z, non_neg, ◌≤ℤ◌, ◌<ℤ◌}
 use Rattle.theory_signed.proofs.Laws.{signed, g_lt_true, g_lt_false}
 use Rattle.theory_intervals.proofs.Line.{Test, yea, nay, test, no_both}
@@ -15,6 +18,7 @@ use Rattle.theory_intervals.specs.Records.{Rec, rec, same}
 use Rattle.theory_intervals.specs.OverInt.{encode}
 use Rattle.theory_intervals.specs.Flat.{rows}
 use Rattle.theory_intervals.proofs.Index.{rows_ext}
+use Rattle.theory_intervals.proofs.OverInt.{state_is}
 use Rattle.theory_intervals.specs.Lists.{recs, on_track, Holds}
 use Rattle.list_rules.specs.Inner.{track_no, start_no, end_no, state_no, may_follow, Front, Split, Bounded}
 use Rattle.list_rules.proofs.ByIndex.{holds_both, nn_good}
@@ -71,15 +75,7 @@ found l v h = record { within = omega (arith, v.order, v.left); below = v.below;
 pub bounded : (l : List ℤ) {n : ℕ} {x : ℤ} {lo hi : ℕ} → Halving (start_no l) n x lo hi → Bounded l n x lo hi
 bounded l v = record { order = v.order; within = v.left; below = v.below; above = v.above }
 
-pub halving : (l : List ℤ) {n : ℕ} {x : ℤ} {lo hi : ℕ} → Bounded l n x lo hi → Halving (start_no l) n x lo hi
-halving l v = record { order = v.order; left = v.within; below = v.below; above = v.above }
-
 -- ---- a place between two records
-
--- it is not before the first record, where that is below x
-pub not_first : (l : List ℤ) (x : ℤ) → track_no l 0 <ℤ x → (k : ℕ) → x ≤ℤ track_no l k → 0 < k
-not_first l x h zero q = absurd (omega signed)
-not_first l x h (suc k) q = omega arith
 
 pub split_between : {l : List ℤ} {n : ℕ} {x : ℤ} → Front l n → (k : ℕ) → k < n → track_no l (k - 1) <ℤ x → x ≤ℤ track_no l k → Split l n x k
 split_between f k h p q = record {
@@ -91,6 +87,10 @@ split_between f k h p q = record {
 -- the same place for the same track
 pub split_as : {l : List ℤ} {n k : ℕ} {x y : ℤ} → x ≡ y → Split l n x k → Split l n y k
 split_as {l} {n} {k} e s = subst (λ (x : ℤ). Split l n x k) e s
+
+-- a track, widened by `as i32`, is itself
+pub widened : {x : ℤ} → SFits w16 x → to_z w32 (of_z w32 (to_z w16 (of_z w16 x))) ≡ x
+widened {x} f = let e = to_z-of_z f in let g : SFits w32 (to_z w16 (of_z w16 x)) = omega signed in to_z-of_z g ∙ e
 
 -- ---- rows
 
@@ -126,10 +126,6 @@ all_on x (suc n) t a b s h =
 
 -- ---- the numbers of a part
 
-pos_abs : (z : ℤ) → non_neg z ≡ true → pos (nat_abs z) ≡ z
-pos_abs (pos n) h = refl
-pos_abs (negsuc n) h = no_both h refl
-
 enc_rows : (m k : ℕ) (l : List ℤ) → k + 4 * m ≤ length l → ((i : ℕ) → i < m → non_neg (get_or l (k + (4 * i + 3)) (pos 0)) ≡ true)
     → encode (rows m (λ i. get_or l (k + 4 * i) (pos 0)) (λ i. get_or l (k + (4 * i + 1)) (pos 0)) (λ i. get_or l (k + (4 * i + 2)) (pos 0)) (λ i. nat_abs (get_or l (k + (4 * i + 3)) (pos 0)))) ≡ take (4 * m) (drop k l)
 enc_rows zero k l r h = refl
@@ -143,7 +139,7 @@ enc_rows (suc m) k l r h =
     (λ i. get_or l (k + 4 + 4 * i) (pos 0)) (λ i. get_or l (k + 4 + (4 * i + 1)) (pos 0)) (λ i. get_or l (k + 4 + (4 * i + 2)) (pos 0))
     (λ i. nat_abs (get_or l (k + (4 * suc i + 3)) (pos 0))) (λ i. nat_abs (get_or l (k + 4 + (4 * i + 3)) (pos 0)))
     (λ i q. ap (λ (x : ℕ). get_or l x (pos 0)) (sym (g₀ i))) (λ i q. ap (λ (x : ℕ). get_or l x (pos 0)) (sym (g 1 i))) (λ i q. ap (λ (x : ℕ). get_or l x (pos 0)) (sym (g 2 i))) (λ i q. ap (λ (x : ℕ). nat_abs (get_or l x (pos 0))) (sym (g 3 i))) in
-    let z = pos_abs (get_or l (k + 3) (pos 0)) (h 0 (omega arith)) in
+    let z = state_is (get_or l (k + 3) (pos 0)) (h 0 (omega arith)) in
     let k₀ : k + 0 ≡ k = omega arith in
     let four : drop k l ≡ get_or l (k + 0) (pos 0) ∷ get_or l (k + 1) (pos 0) ∷ get_or l (k + 2) (pos 0) ∷ get_or l (k + 3) (pos 0) ∷ drop (k + 4) l = drop_four l k (omega arith) in
     (λ i. get_or l (k + 0) (pos 0) ∷ get_or l (k + 1) (pos 0) ∷ get_or l (k + 2) (pos 0) ∷ z i ∷ (ap (encode) same_rows ∙ ih) i) ∙ sym (λ i. take (e i) (four i))

@@ -1,19 +1,17 @@
 -- The list call of document 01 that gives the records of a track.
-use Rattle.std.specs.Prelude.{◌≡◌, cond, List, [], ◌∷◌, ℕ, suc, ◌+◌, ◌*◌, ◌≤◌, eqb, length, take, drop, ℤ}
+use Rattle.std.specs.Prelude.{◌≡◌, cond, List, [], ◌∷◌, ℕ, suc, ◌+◌, ◌*◌, ◌≤◌, eqb, length, take, drop, ℤ, Option, Some, None}
 use Rattle.std.specs.Int.Signed.{lt_z}
 use Rattle.theory_intervals.specs.Records.{Rec, rec}
 use Rattle.theory_intervals.specs.OverInt.{encode, decode}
 use Rattle.theory_intervals.specs.Lists.{recs, good_length, on_track}
 use Rattle.list_rules.specs.Kept.{kept_of}
-use Rattle.list_rules.specs.declared.Used.{Used}
-use Rattle.list_rules.specs.declared.Used.TheVariants.{Records, Broken}
 
 -- ---- "Records of a track: axis 0 column list, 1 row list"
 
 -- "the part of the named list holding that track's records", of a list for which the rules check gave this answer
-abbrev pub part_of : List ℤ → ℤ → Used → List ℤ
-part_of l t (Records n) = encode (on_track t (recs n l))
-part_of l t Broken = []
+abbrev pub part_of : List ℤ → ℤ → Option ℕ → List ℤ
+part_of l t (Some n) = encode (on_track t (recs n l))
+part_of l t None = []
 
 -- "Empty if the track has none, .. or the named list's length or records break the rules"
 abbrev pub track_of : List ℤ → ℤ → List ℤ

@@ -1,9 +1,10 @@
 -- Laying one tile on the lists is `put` on the board: the one law by which every step's item is proved.
+use Rattle.std.specs.Prelude.{Result, Ok}
 use mathlib.Core.Path.{◌≡◌, refl, sym, ap, subst, ◌∙◌}
 use mathlib.Core.Logic.{inl, inr}
 use mathlib.Core.Bool.{Bool, true, false, not, cond, ◌||◌}
 use mathlib.Core.List.{List, []}
-use Prim.Native.Nat.{ℕ, ◌+◌, ◌*◌, ◌<◌}
+use Prim.Native.Nat.{ℕ, ◌*◌, ◌<◌}
 use native.Mathlib.Omega.{arith}
 use borrow.Author.Tests.{ltb-false}
 use lib.IntN.{ℤ, pos}
@@ -31,10 +32,9 @@ use Rattle.theory_walk.proofs.Answers.{written_laid, written_length}
 use Rattle.grid_track_counts.specs.declared.TrackCounts.{TrackCounts}
 use Rattle.placing_request.specs.Items.{axis_of}
 use Rattle.placing_laying.specs.declared.Matrix.{Matrix}
-use Rattle.placing_laying.specs.declared.Laid.{Laid}
-use Rattle.placing_laying.specs.declared.Laid.TheVariants.{On}
+use Rattle.refusals.specs.declared.Refusal.{Refusal}
 use Rattle.placing_laying.specs.Laying.{Laying, Fits, on_primary, on_secondary, refusal_of, short_of, mark_of, answer_five, grown_matrix}
-use Rattle.placing_laying.specs.Ready.{setting_for, Ready, AfterItem, Items}
+use Rattle.placing_laying.specs.Ready.{setting_for, Ready, AfterItem}
 
 -- ---- what stands for a board holds its records
 
@@ -180,7 +180,7 @@ module _ (columns dense : Bool) (room : Both ℕ) (old : List ℤ) (b : Board) (
   unfolding laid_on tile_of
   coloured = more g k.coloured
 
-  ready : {r : Laid} {a' p' s' : List ℤ} → Fits columns p s state h.flags m i answers primary secondary r a' p' s' → (short_p ≡ false) × (short_s ≡ false)
+  ready : {r : Result Matrix Refusal} {a' p' s' : List ℤ} → Fits columns p s state h.flags m i answers primary secondary r a' p' s' → (short_p ≡ false) × (short_s ≡ false)
       → Ready columns room old t (grown_matrix columns p s state h.flags m i answers primary secondary) a' p' s'
   ready q z =
       let u = ltb-false (length primary) (4 * length ps) z.0 in
@@ -200,7 +200,7 @@ module _ (columns dense : Bool) (room : Both ℕ) (old : List ℤ) (b : Board) (
       }
 
   -- LAYING ONE TILE on the lists is `put` on the board
-  pub put_laid : {r : Laid} {a' p' s' : List ℤ} → Laying columns p s state h.flags m i answers primary secondary r a' p' s'
+  pub put_laid : {r : Result Matrix Refusal} {a' p' s' : List ℤ} → Laying columns p s state h.flags m i answers primary secondary r a' p' s'
       → AfterItem columns room old i (put (setting_for columns dense room) i h b) r a' p' s'
   put_laid {r} {a'} {p'} {s'} (inl q) =
       let v = roomy columns short_p short_s i t q.room in
@@ -235,7 +235,7 @@ pub record Lengths (answers primary secondary a' p' s' : List ℤ) : Type 0 wher
   pub primary_stays : length p' ≡ length primary
   pub secondary_stays : length s' ≡ length secondary
 
-pub laying_long : {columns : Bool} {p s : Lines} {state : ℤ} {flags : ℕ} {m : Matrix} {i : ℕ} {answers primary secondary : List ℤ} {r : Laid} {a' p' s' : List ℤ}
+pub laying_long : {columns : Bool} {p s : Lines} {state : ℤ} {flags : ℕ} {m : Matrix} {i : ℕ} {answers primary secondary : List ℤ} {r : Result Matrix Refusal} {a' p' s' : List ℤ}
     → Laying columns p s state flags m i answers primary secondary r a' p' s' → Lengths answers primary secondary a' p' s'
 laying_long {columns} {p} {s} {state} {flags} {m} {i} {answers} {primary} {secondary} (inl q) =
     let ps = on_primary columns p s state flags m i answers primary secondary in
@@ -251,8 +251,8 @@ laying_long (inr q) = record { answers_stay = ap length q.answered; primary_stay
 -- ---- an item that is another step's
 
 pub passed : {columns : Bool} {room : Both ℕ} {old : List ℤ} {b : Board} {m : Matrix} {answers primary secondary : List ℤ} (i : ℕ) → Ready columns room old b m answers primary secondary
-    → (u : Run) → u ≡ going b → AfterItem columns room old i u (On m) answers primary secondary
-passed {columns} {room} {old} {b} {m} {answers} {primary} {secondary} i k u e = subst (λ (v : Run). AfterItem columns room old i v (On m) answers primary secondary) (sym e) (m, (refl, k))
+    → (u : Run) → u ≡ going b → AfterItem columns room old i u (Ok m) answers primary secondary
+passed {columns} {room} {old} {b} {m} {answers} {primary} {secondary} i k u e = subst (λ (v : Run). AfterItem columns room old i v (Ok m) answers primary secondary) (sym e) (m, (refl, k))
 
 pub sound_primary : {columns : Bool} {room : Both ℕ} {old : List ℤ} {b : Board} {m : Matrix} {answers primary secondary : List ℤ} → Ready columns room old b m answers primary secondary → Sound m.primary
 sound_primary {columns} k = rw k.primary_counts (sound_on columns k.kept.counts)
@@ -272,7 +272,3 @@ sound_secondary {columns} k = rw k.secondary_counts (sound_off columns k.kept.co
 pub other_axis : (c : Bool) → axis_of (not c) ≡ other (axis_of c)
 other_axis true = refl
 other_axis false = refl
-
--- the first items of good items
-pub items_upto : {l : List ℤ} {n i : ℕ} → Items l n → i < n → Items l (i + 1)
-items_upto {l} {n} {i} g h = record { long = omega (arith, g.long); good = λ j k. g.good j (omega arith) }

@@ -1,2 +1,3 @@
 pub mod Lays
 pub mod Laying
+pub mod Steps

@@ -1,20 +1,20 @@
 -- What laying one tile does to the lists and the counts that the program holds: "After each item: limit its lines .., grow the counts as little as covers
 -- it, paint both lists, write the answer." P and S are the tile's primary and secondary lines; no board and no tile appears here.
-use Rattle.std.specs.Prelude.{◌≡◌, ◌⊎◌, Bool, true, false, cond, ◌||◌, List, [], ◌∷◌, ℕ, ◌+◌, ◌*◌, ◌<◌, ltb, ℤ, pos, length}
+use Rattle.std.specs.Prelude.{◌≡◌, ◌⊎◌, Bool, true, false, cond, eqb, ◌||◌, List, [], ◌∷◌, ℕ, ◌+◌, ◌*◌, ◌<◌, ltb, ℤ, pos, length, Result, Ok, Err}
 use Rattle.std.proofs.lemmas.List.Edits.{sets}
 use Rattle.theory_intervals.specs.Records.{Rec}
 use Rattle.theory_intervals.specs.OverInt.{paint_list, flat}
 use Rattle.theory_intervals.specs.Lists.{recs}
-use Rattle.list_painting.specs.Painting.{area_of}
+use Rattle.list_areas.specs.Areas.{area_of}
 use Rattle.grid_coordinates.specs.declared.Lines.{Lines}
 use Rattle.grid_coordinates.specs.Line.{limited, pressed}
 use Rattle.grid_track_counts.specs.Counts.{grown}
 use Rattle.theory_walk.specs.Axis.{laid, Extent}
 use Rattle.theory_walk.specs.Walk.{bit}
+use Rattle.refusals.specs.declared.Refusal.{Refusal}
+use Rattle.refusals.specs.Numbers.{numbered}
 use Rattle.placing_request.specs.Items.{axis_of}
 use Rattle.placing_laying.specs.declared.Matrix.{Matrix}
-use Rattle.placing_laying.specs.declared.Laid.{Laid}
-use Rattle.placing_laying.specs.declared.Laid.TheVariants.{On, Short}
 
 -- "Answer: five numbers an item: column start, column end, row start, row end, mark"
 abbrev pub answer_five : Extent → ℕ → List ℤ
@@ -28,6 +28,10 @@ short_of n rs = ltb n (4 * length rs)
 abbrev pub refusal_of : Bool → Bool → Bool → ℕ
 refusal_of true p s = cond s 7 (cond p 8 0)
 refusal_of false p s = cond p 7 (cond s 8 0)
+
+-- whether item i has room: it has at the number 0, and any other refuses it
+abbrev pub room_of : ℕ → ℕ → Result Unit Refusal
+room_of n i = cond (eqb n 0) (Ok tt) (Err (numbered n i))
 
 -- the mark: "1 pressed (limiting changed a line)" and the step's own flags
 abbrev pub mark_of : Lines → Lines → ℕ → ℕ
@@ -54,22 +58,22 @@ module _ (columns : Bool) (p s : Lines) (state : ℤ) (flags : ℕ) (m : Matrix)
       }
 
   -- there is room: the tile is laid
-  pub record Fits (r : Laid) (answers' primary' secondary' : List ℤ) : Type 0 where
+  pub record Fits (r : Result Matrix Refusal) (answers' primary' secondary' : List ℤ) : Type 0 where
     pub room : refusal ≡ 0
-    pub result : r ≡ On grown_matrix
+    pub result : r ≡ Ok grown_matrix
     pub answered : answers' ≡ sets answers (5 * i) (answer_five (laid (axis_of columns) (limited p) (limited s)) (mark_of p s flags))
     pub onto_primary : primary' ≡ flat (length primary) on_primary
     pub onto_secondary : secondary' ≡ flat (length secondary) on_secondary
 
   -- there is none: "Room is judged on the list rules after the whole of one item's area", before either list is changed
-  pub record Full (r : Laid) (answers' primary' secondary' : List ℤ) : Type 0 where
+  pub record Full (r : Result Matrix Refusal) (answers' primary' secondary' : List ℤ) : Type 0 where
     pub number : ℕ
     pub room : refusal ≡ number
     pub some : 0 < number
-    pub result : r ≡ Short number
+    pub result : r ≡ Err (numbered number i)
     pub answered : answers' ≡ answers
     pub onto_primary : primary' ≡ primary
     pub onto_secondary : secondary' ≡ secondary
 
-  abbrev pub Laying : Laid → List ℤ → List ℤ → List ℤ → Type 0
+  abbrev pub Laying : Result Matrix Refusal → List ℤ → List ℤ → List ℤ → Type 0
   Laying r answers' primary' secondary' = Fits r answers' primary' secondary' ⊎ Full r answers' primary' secondary'

@@ -1,2 +1,3 @@
 pub mod Laying
 pub mod Ready
+pub mod States

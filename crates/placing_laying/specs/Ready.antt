@@ -1,6 +1,6 @@
 -- How the program's lists and counts stand for a board of the walk, and what a step's item, or a whole step, leaves of them. These words join the code to
 -- the walk of document 01; what the door promises is said without them.
-use Rattle.std.specs.Prelude.{◌≡◌, List, Bool, true, ℕ, ◌*◌, ◌≤◌, ◌<◌, ℤ, length}
+use Rattle.std.specs.Prelude.{◌≡◌, List, Bool, ℕ, ◌*◌, ◌≤◌, ℤ, length, Result, Ok, Err}
 use Rattle.theory_intervals.specs.OverInt.{flat}
 use Rattle.theory_walk.specs.Axis.{other, Both, on}
 use Rattle.theory_walk.specs.Walk.{Board, Setting, Run, going, stopped, records_on}
@@ -8,13 +8,11 @@ use Rattle.theory_walk.specs.OnList.{written}
 use Rattle.theory_walk.proofs.Cells.{Coloured}
 use Rattle.theory_walk.proofs.WalkLaws.{Kept}
 use Rattle.theory_walk.specs.declared.Placement.{Placement}
-use Rattle.theory_walk.specs.Request.{item_of, good_item}
+use Rattle.theory_walk.specs.Request.{item_of}
+use Rattle.refusals.specs.declared.Refusal.{Refusal}
+use Rattle.refusals.specs.Numbers.{numbered}
 use Rattle.placing_request.specs.Items.{axis_of, item_at}
 use Rattle.placing_laying.specs.declared.Matrix.{Matrix}
-use Rattle.placing_laying.specs.declared.Laid.{Laid}
-use Rattle.placing_laying.specs.declared.Laid.TheVariants.{On, Short}
-use Rattle.placing_laying.specs.declared.Stepped.{Stepped}
-use Rattle.placing_laying.specs.declared.Stepped.TheVariants.{Done, Refused}
 
 -- a run's setting, with today's states
 abbrev pub setting_for : Bool → Bool → Both ℕ → Setting
@@ -41,10 +39,10 @@ module _ (columns : Bool) (room : Both ℕ) (old : List ℤ) where
     pub primary_long : length primary ≡ on (axis_of columns) room
     pub secondary_long : length secondary ≡ on (other (axis_of columns)) room
 
-  -- after the item i: the walk goes on with a board that the program's lists stand for, or stops there with a list's number
-  abbrev pub AfterItem : ℕ → Run → Laid → List ℤ → List ℤ → List ℤ → Type 0
-  AfterItem i (going b) r answers primary secondary = (m : Matrix) × ((r ≡ On m) × Ready b m answers primary secondary)
-  AfterItem i (stopped n j) r answers primary secondary = (r ≡ Short n) × ((j ≡ i) × Stopped answers primary secondary)
+  -- after the item i: the walk goes on with a board that the program's lists stand for, or stops there, and the item is refused by a list's number
+  abbrev pub AfterItem : ℕ → Run → Result Matrix Refusal → List ℤ → List ℤ → List ℤ → Type 0
+  AfterItem i (going b) r answers primary secondary = (m : Matrix) × ((r ≡ Ok m) × Ready b m answers primary secondary)
+  AfterItem i (stopped n j) r answers primary secondary = (r ≡ Err (numbered n i)) × ((j ≡ i) × Stopped answers primary secondary)
 
 -- the lists and counts stand for some board, over some answers
 abbrev pub Stands : Bool → Matrix → List ℤ → List ℤ → List ℤ → Type 0
@@ -58,12 +56,7 @@ primary_of columns items i = on (axis_of columns) (item_of (item_at items i))
 abbrev pub secondary_of : Bool → List ℤ → ℕ → Placement
 secondary_of columns items i = on (other (axis_of columns)) (item_of (item_at items i))
 
--- every item keeps its rules
-pub record Items (items : List ℤ) (n : ℕ) : Type 0 where
-  pub long : 6 * n ≤ length items
-  pub good : (i : ℕ) → i < n → good_item (item_at items i) ≡ true
-
 -- after a step: the walk goes on with a board that the program's lists stand for, or has stopped with a list's number and an item's index
-abbrev pub AfterStep : Bool → Both ℕ → List ℤ → Run → Stepped → List ℤ → List ℤ → List ℤ → Type 0
-AfterStep columns room old (going b) r answers primary secondary = (m : Matrix) × ((r ≡ Done m) × Ready columns room old b m answers primary secondary)
-AfterStep columns room old (stopped n i) r answers primary secondary = (r ≡ Refused n i) × Stopped columns room old answers primary secondary
+abbrev pub AfterStep : Bool → Both ℕ → List ℤ → Run → Result Matrix Refusal → List ℤ → List ℤ → List ℤ → Type 0
+AfterStep columns room old (going b) r answers primary secondary = (m : Matrix) × ((r ≡ Ok m) × Ready columns room old b m answers primary secondary)
+AfterStep columns room old (stopped n i) r answers primary secondary = (r ≡ Err (numbered n i)) × Stopped columns room old answers primary secondary

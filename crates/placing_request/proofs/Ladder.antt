@@ -1,42 +1,58 @@
--- The checks of a request as a ladder of tests.
-use mathlib.Core.Path.{◌≡◌, refl, sym, subst}
-use mathlib.Core.Bool.{Bool, true, false, not, cond, ◌&&◌, ◌||◌}
-use mathlib.Core.Option.{Option, none, some}
-use Prim.Native.Nat.{ℕ, ◌*◌, ◌%◌}
-use lib.Dec.{T, eqb, ltb}
-use lib.ListN.{length}
-use Rattle.grid_track_counts.specs.Counts.{counts_good}
-use Rattle.theory_walk.specs.Search.{or_else}
-use Rattle.theory_walk.specs.Request.{Request, Refusal, no, item_count, halves, bad_from, length_good, checked}
-use Rattle.placing_request.specs.Items.{check_of, first_bad_of}
-use Rattle.placing_request.specs.declared.FirstBad.{FirstBad}
-use Rattle.placing_request.specs.declared.FirstBad.TheVariants.{At, AllGood}
-use Rattle.placing_request.specs.declared.checks.Check.{Check}
-use Rattle.placing_request.specs.declared.checks.Check.TheVariants.{Passed, Refused}
+-- The checks of a request as a ladder of tests, and a flow by its number.
+use Rattle.std.specs.Prelude.{Result, Ok, Err}
+use mathlib.Core.Path.{◌≡◌, refl, sym, ap}
+use mathlib.Core.Bool.{Bool, true, false, not, ◌&&◌, ◌||◌}
+use mathlib.Core.Logic.{◌⊎◌, inl, inr}
+use Prim.Native.Nat.{ℕ, zero, suc, ◌≤◌, ◌<◌}
+use native.Mathlib.Omega.{arith}
+use borrow.Author.Tests.{eq-eqb, ne_eqb, lt-ltb, le-ltb}
+use lib.Dec.{eqb, ltb}
+use Rattle.refusals.specs.declared.Refusal.{Refusal}
+use Rattle.refusals.specs.declared.Refusal.TheVariants.{UnknownFlow}
+use Rattle.placing_request.specs.declared.flow.Flow.{Flow}
+use Rattle.placing_request.specs.Flows.{flow_number, flow_of}
 
--- what `if !f(..)` tells of a flag
-pub was_true : {r b : Bool} → r ≡ b → not r ≡ false → b ≡ true
-was_true {r = true} e h = sym e
-was_true {r = false} e h = absurd (subst T h tt)
+-- a number from 4 on has no flow
+beyond : (n : ℕ) → flow_of (suc (suc (suc (suc n)))) ≡ Err UnknownFlow
+beyond n =
+    let m = suc (suc (suc (suc n))) in
+    rw (ne_eqb m 0 (λ e. omega arith), ne_eqb m 1 (λ e. omega arith), ne_eqb m 2 (λ e. omega arith), ne_eqb m 3 (λ e. omega arith))
 
-pub was_false : {r b : Bool} → r ≡ b → not r ≡ true → b ≡ false
-was_false {r = true} e h = absurd (subst T (sym h) tt)
-was_false {r = false} e h = sym e
+abbrev number_or : ℕ → Result Flow Refusal → ℕ
+number_or n (Ok f) = flow_number f
+number_or n (Err r) = n
 
--- one test for each number, in their order
-abbrev pub ladder : Bool → Bool → Bool → Bool → Bool → Bool → Bool → Option ℕ → Option Refusal
-ladder flow items columns rows answers column_list row_list bad =
-    cond flow (no 1 0) (cond items (no 2 0) (cond (not (columns && rows)) (no 3 0) (cond answers (no 4 0) (cond (not (column_list && row_list)) (no 5 0) (or_else bad (λ i. no 6 i) none)))))
+-- a number that has a flow is that flow's, and below 4
+pub flow_known : (n : ℕ) (f : Flow) → flow_of n ≡ Ok f → (ltb 3 n ≡ false) × (flow_number f ≡ n)
+flow_known zero f e = (refl, sym (ap (number_or 0) e))
+flow_known (suc zero) f e = (refl, sym (ap (number_or 0) e))
+flow_known (suc (suc zero)) f e = (refl, sym (ap (number_or 0) e))
+flow_known (suc (suc (suc zero))) f e = (refl, sym (ap (number_or 0) e))
+flow_known (suc (suc (suc (suc n)))) f e = let g = beyond n in cc
 
-pub checked_ladder : (r : Request) → checked r ≡ ladder (ltb 3 r.flow) (not (eqb (length r.items % 6) 0) || ltb 2000 (item_count r)) (counts_good r.counts.columns) (counts_good r.counts.rows) (ltb r.answers (5 * item_count r)) (length_good r.lists.columns) (length_good r.lists.rows) (bad_from 0 (halves r.items))
-unfolding checked
-checked_ladder r = refl
+-- one that has none is not
+pub flow_unknown : (n : ℕ) (r : Refusal) → flow_of n ≡ Err r → (ltb 3 n ≡ true) × (r ≡ UnknownFlow)
+flow_unknown zero r e = cc
+flow_unknown (suc zero) r e = cc
+flow_unknown (suc (suc zero)) r e = cc
+flow_unknown (suc (suc (suc zero))) r e = cc
+flow_unknown (suc (suc (suc (suc n)))) r e = let g = beyond n in (lt-ltb 3 (suc (suc (suc (suc n)))) (omega arith), cc)
 
--- the items' check as the answer
-abbrev pub bad_of : FirstBad → Check
-bad_of (At i) = Refused 6 i
-bad_of AllGood = Passed
+-- the items' numbers are wrong where they are no sixes, or too many
+pub items_wrong : (n m : ℕ) → ((n ≡ 0 → ⊥) ⊎ ((n ≡ 0) × (2000 < m))) → (not (eqb n 0) || ltb 2000 m) ≡ true
+items_wrong n m (inl h) = rw (ne_eqb n 0 h)
+items_wrong n m (inr h) = rw (eq-eqb n 0 h.0, lt-ltb 2000 m h.1)
 
-pub bad_check : (o : Option ℕ) → check_of (or_else o (λ i. no 6 i) none) ≡ bad_of (first_bad_of o)
-bad_check none = refl
-bad_check (some i) = refl
+pub items_right : (n m : ℕ) → n ≡ 0 → m ≤ 2000 → (not (eqb n 0) || ltb 2000 m) ≡ false
+items_right n m e h = rw (eq-eqb n 0 e, le-ltb 2000 m h)
+
+-- of two parts one is bad, or neither
+pub first_wrong : (a b : Bool) → a ≡ false → not (a && b) ≡ true
+first_wrong a b e = rw e
+
+pub second_wrong : (a b : Bool) → b ≡ false → not (a && b) ≡ true
+second_wrong true b e = rw e
+second_wrong false b e = refl
+
+pub both_right : (a b : Bool) → a ≡ true → b ≡ true → not (a && b) ≡ false
+both_right a b e f = rw (e, f)

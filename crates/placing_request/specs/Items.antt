@@ -1,13 +1,13 @@
 -- The items of a request by their index, and what the functions of this crate give back.
-use Rattle.std.specs.Prelude.{Bool, true, false, List, ℕ, ◌+◌, ◌*◌, ℤ, pos, get_or}
-use Rattle.std.proofs.Math.Option.{Option, none, some}
+use Rattle.std.specs.Prelude.{Bool, true, false, List, ℕ, ◌+◌, ◌*◌, ℤ, pos, get_or, length, map, Option, Some, None, Result, Err}
 use Rattle.theory_walk.specs.Axis.{Axis, col, row, Both}
+use Rattle.theory_walk.specs.Walk.{Queued}
 use Rattle.grid_track_counts.specs.declared.TrackCounts.{TrackCounts}
-use Rattle.theory_walk.specs.Request.{Half, half, Request, Refusal}
-use Rattle.placing_request.specs.declared.checks.Check.{Check}
-use Rattle.placing_request.specs.declared.checks.Check.TheVariants.{Passed, Refused}
-use Rattle.placing_request.specs.declared.FirstBad.{FirstBad}
-use Rattle.placing_request.specs.declared.FirstBad.TheVariants.{At, AllGood}
+use Rattle.theory_walk.specs.Request.{Half, half, halves, item_of, up_to, queue, Request, Refusal}
+use Rattle.refusals.specs.Numbers.{numbered}
+use Rattle.refusals.specs.declared.Refusal as R
+use Rattle.placing_request.specs.declared.flow.Flow.{Flow}
+use Rattle.placing_request.specs.Flows.{flow_of}
 
 -- number k of item i
 abbrev pub number_at : List ℤ → ℕ → ℕ → ℤ
@@ -20,21 +20,20 @@ item_at l i = record {
   rows = half (number_at l i 3) (number_at l i 4) (number_at l i 5);
 }
 
--- "an item breaks its rules; the first such index"
-abbrev pub first_bad_of : Option ℕ → FirstBad
-first_bad_of none = AllGood
-first_bad_of (some i) = At i
-
 -- the axis that a flag names: columns, or rows
 abbrev pub axis_of : Bool → Axis
 axis_of true = col
 axis_of false = row
+
+-- the items of the list as a queue, in document order
+abbrev pub queued : List ℤ → List Queued
+queued l = queue (up_to (length (halves l)) 0) (map item_of (halves l))
 
 -- "A placement run checks 1 to 6 in that order": the request of a call's arguments, and what the check answers
 abbrev pub request_of : ℕ → TrackCounts → TrackCounts → List ℤ → ℕ → ℕ → ℕ → Request
 request_of flow columns rows items answers column_list row_list =
     record { flow = flow; counts = record { columns = columns; rows = rows }; items = items; answers = answers; lists = record { columns = column_list; rows = row_list } }
 
-abbrev pub check_of : Option Refusal → Check
-check_of none = Passed
-check_of (some x) = Refused x.number x.index
+abbrev pub check_of : ℕ → Option Refusal → Result Flow R.Refusal
+check_of flow None = flow_of flow
+check_of flow (Some x) = Err (numbered x.number x.index)

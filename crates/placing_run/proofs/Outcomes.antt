@@ -1,8 +1,8 @@
 -- What a run leaves is the document's outcome.
+use Rattle.std.specs.Prelude.{None, Result, Ok, Err}
 use mathlib.Core.Path.{◌≡◌, refl, sym, ap, subst, ◌∙◌}
 use mathlib.Core.Bool.{Bool, true, false}
 use mathlib.Core.List.{List, [], ◌∷◌, ◌++◌, map, append-nil}
-use mathlib.Core.Option.{none}
 use Prim.Native.Nat.{ℕ, zero, suc, ◌*◌, ◌/◌, ◌%◌, ◌≤◌, ◌<◌}
 use native.Mathlib.Omega.{arith}
 use lib.Dec.{eqb, ltb}
@@ -17,12 +17,13 @@ use Rattle.theory_walk.proofs.Tests.{Every, nil, more}
 use Rattle.theory_walk.proofs.Checks.{checked_none, halves_length}
 use Rattle.theory_walk.proofs.Answers.{written_is}
 use Rattle.theory_walk.proofs.Promises.{is_answered, room_refuses, room_zero, all_placed, only_items}
-use Rattle.placing_request.specs.Items.{item_at, request_of}
-use Rattle.placing_request.proofs.Items.{queued, halves_at}
-use Rattle.placing_laying.specs.declared.Stepped.{Stepped}
-use Rattle.placing_laying.specs.Ready.{Items}
+use Rattle.placing_request.specs.Items.{item_at, request_of, queued}
+use Rattle.placing_request.proofs.ItemLemmas.{halves_at}
+use Rattle.refusals.specs.declared.Refusal.{Refusal}
+use Rattle.placing_laying.specs.declared.Matrix.{Matrix}
 use Rattle.placing_run.specs.Runs.{run_for, LeftBy}
-use Rattle.placing_run.specs.Placing.{placing_of, by_columns}
+use Rattle.placing_run.specs.Placing.{placing_of}
+use Rattle.placing_run.specs.declared.checked.Placed.{Placed}
 
 -- ---- the program's run is the request's
 
@@ -39,7 +40,7 @@ run_rows flow c r items n cl rl e = rw (e, queue_same items)
 
 -- ---- the answer places of the items, and those past them
 
-module _ (req : Request) (passed : checked req ≡ none) (old : List ℤ) (long : 5 * item_count req ≤ length old) where
+module _ (req : Request) (passed : checked req ≡ None) (old : List ℤ) (long : 5 * item_count req ≤ length old) where
   abbrev n : ℕ
   n = 5 * item_count req
 
@@ -60,8 +61,17 @@ module _ (req : Request) (passed : checked req ≡ none) (old : List ℤ) (long 
 
 -- ---- both axes
 
+-- a run's counts by columns and rows: which are primary is told by the flag
+abbrev pub placed_of : Bool → Matrix → Placed
+placed_of true m = record { columns = m.primary; rows = m.secondary }
+placed_of false m = record { columns = m.secondary; rows = m.primary }
+
+abbrev pub by_columns : Bool → Result Matrix Refusal → Result Placed Refusal
+by_columns columns (Ok m) = Ok (placed_of columns m)
+by_columns columns (Err r) = Err r
+
 -- what the document says is left, of a run's answer and lists
-pub record Told (req : Request) (columns : Bool) (old oldRows oldColumns : List ℤ) (r : Stepped) (part rows' columns' : List ℤ) : Type 0 where
+pub record Told (req : Request) (columns : Bool) (old oldRows oldColumns : List ℤ) (r : Result Matrix Refusal) (part rows' columns' : List ℤ) : Type 0 where
   pub answer : by_columns columns r ≡ placing_of (outcome req)
   pub in_answers : part ++ drop (5 * item_count req) old ≡ answers_left req old (outcome req)
   pub in_rows : rows' ≡ rows_left req oldRows (outcome req)
@@ -74,8 +84,8 @@ module _ (flow : ℕ) (c r : TrackCounts) (items old oldRows oldColumns : List �
   abbrev m₀ : ℕ
   m₀ = 5 * item_count req
 
-  module _ (passed : checked req ≡ none) (long : 5 * item_count req ≤ length old) where
-    told_columns : (u : Run) → run_of req ≡ u → (x : Stepped) (a p s : List ℤ) → LeftBy true (take m₀ old) (length oldColumns) (length oldRows) u x a p s → Told req true old oldRows oldColumns x a s p
+  module _ (passed : checked req ≡ None) (long : 5 * item_count req ≤ length old) where
+    told_columns : (u : Run) → run_of req ≡ u → (x : Result Matrix Refusal) (a p s : List ℤ) → LeftBy true (take m₀ old) (length oldColumns) (length oldRows) u x a p s → Told req true old oldRows oldColumns x a s p
     unfolding rows_left columns_left
     told_columns (going b) e x a p s (m, (f, (g, (h, (i, (j, k)))))) =
         let o = is_answered req b passed e in
@@ -95,7 +105,7 @@ module _ (flow : ℕ) (c r : TrackCounts) (items old oldRows oldColumns : List �
           in_columns = h ∙ sym (z.in_columns oldColumns);
         }
 
-    told_rows : (u : Run) → run_of req ≡ u → (x : Stepped) (a p s : List ℤ) → LeftBy false (take m₀ old) (length oldRows) (length oldColumns) u x a p s → Told req false old oldRows oldColumns x a p s
+    told_rows : (u : Run) → run_of req ≡ u → (x : Result Matrix Refusal) (a p s : List ℤ) → LeftBy false (take m₀ old) (length oldRows) (length oldColumns) u x a p s → Told req false old oldRows oldColumns x a p s
     unfolding rows_left columns_left
     told_rows (going b) e x a p s (m, (f, (g, (h, (i, (j, k)))))) =
         let o = is_answered req b passed e in
@@ -115,11 +125,11 @@ module _ (flow : ℕ) (c r : TrackCounts) (items old oldRows oldColumns : List �
           in_columns = k ∙ sym (z.in_columns oldColumns);
         }
 
-    pub run_by_columns : eqb (flow % 2) 0 ≡ true → (x : Stepped) (a p s : List ℤ) → LeftBy true (take m₀ old) (length oldColumns) (length oldRows) (run_for true (ltb 1 flow) items c r (length oldColumns) (length oldRows)) x a p s
+    pub run_by_columns : eqb (flow % 2) 0 ≡ true → (x : Result Matrix Refusal) (a p s : List ℤ) → LeftBy true (take m₀ old) (length oldColumns) (length oldRows) (run_for true (ltb 1 flow) items c r (length oldColumns) (length oldRows)) x a p s
         → Told req true old oldRows oldColumns x a s p
     run_by_columns e x a p s k = told_columns (run_of req) refl x a p s (subst (λ (u : Run). LeftBy true (take m₀ old) (length oldColumns) (length oldRows) u x a p s) (run_columns flow c r items (length old) (length oldColumns) (length oldRows) e) k)
 
-    pub run_by_rows : eqb (flow % 2) 0 ≡ false → (x : Stepped) (a p s : List ℤ) → LeftBy false (take m₀ old) (length oldRows) (length oldColumns) (run_for false (ltb 1 flow) items r c (length oldRows) (length oldColumns)) x a p s
+    pub run_by_rows : eqb (flow % 2) 0 ≡ false → (x : Result Matrix Refusal) (a p s : List ℤ) → LeftBy false (take m₀ old) (length oldRows) (length oldColumns) (run_for false (ltb 1 flow) items r c (length oldRows) (length oldColumns)) x a p s
         → Told req false old oldRows oldColumns x a p s
     run_by_rows e x a p s k = told_rows (run_of req) refl x a p s (subst (λ (u : Run). LeftBy false (take m₀ old) (length oldRows) (length oldColumns) u x a p s) (run_rows flow c r items (length old) (length oldColumns) (length oldRows) e) k)
 
@@ -130,12 +140,8 @@ every_at P [] i d nil h = absurd (let z : ⊥ = omega arith in z)
 every_at P (x ∷ xs) zero d (more p ps) h = p
 every_at P (x ∷ xs) (suc i) d (more p ps) h = every_at P xs i d ps (omega arith)
 
-pub passed_items : (q : Request) → checked q ≡ none → Items q.items (length q.items / 6)
-passed_items q e =
+pub passed_items : (q : Request) → checked q ≡ None → (i : ℕ) → i < length q.items / 6 → good_item (item_at q.items i) ≡ true
+passed_items q e i h =
     let l = q.items in
-    record {
-      long = omega arith;
-      good = λ i h.
-          subst (λ (x : Both Half). good_item x ≡ true) (halves_at l i (item_at l i) h)
-          (every_at (λ (x : Both Half). good_item x ≡ true) (halves l) i (item_at l i) (checked_none q e).items (omega (arith, halves_length l)));
-    }
+    subst (λ (x : Both Half). good_item x ≡ true) (halves_at l i (item_at l i) h)
+    (every_at (λ (x : Both Half). good_item x ≡ true) (halves l) i (item_at l i) (checked_none q e).items (omega (arith, halves_length l)))

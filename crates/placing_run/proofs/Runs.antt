@@ -1,4 +1,5 @@
 -- The three steps one after the other, from cleared lists.
+use Rattle.std.specs.Prelude.{Result, Ok, Err, is_err}
 use mathlib.Core.Path.{◌≡◌, refl, sym, ap, subst, ◌∙◌}
 use mathlib.Core.Bool.{Bool, true, false}
 use mathlib.Core.List.{List, []}
@@ -16,10 +17,10 @@ use Rattle.theory_walk.proofs.Tests.{nil}
 use Rattle.theory_walk.proofs.LinesLaws.{Each}
 use Rattle.theory_walk.proofs.WalkLaws.{Kept, Clear}
 use Rattle.theory_walk.proofs.OnLists.{records_none}
+use Rattle.refusals.specs.declared.Refusal.{Refusal}
+use Rattle.refusals.specs.Numbers.{numbered}
 use Rattle.placing_request.specs.Items.{axis_of}
 use Rattle.placing_laying.specs.declared.Matrix.{Matrix}
-use Rattle.placing_laying.specs.declared.Stepped.{Stepped}
-use Rattle.placing_laying.specs.declared.Stepped.TheVariants.{Done, Refused}
 use Rattle.placing_laying.specs.Ready.{Ready, Stopped, AfterStep}
 use Rattle.placing_step2.specs.Ends.{NoEnds}
 use Rattle.placing_run.specs.Runs.{empty_board, run_for, LeftBy, AfterRun}
@@ -31,17 +32,20 @@ pub record Went (columns : Bool) (room : Both ℕ) (old : List ℤ) (u : Run) (m
   pub is : u ≡ going board
   pub ready : Ready columns room old board m answers primary secondary
 
-pub step_done : {columns : Bool} {room : Both ℕ} {old : List ℤ} (u : Run) {r : Stepped} {m : Matrix} {a p s : List ℤ} → AfterStep columns room old u r a p s → r ≡ Done m → Went columns room old u m a p s
+pub step_done : {columns : Bool} {room : Both ℕ} {old : List ℤ} (u : Run) {r : Result Matrix Refusal} {m : Matrix} {a p s : List ℤ} → AfterStep columns room old u r a p s → r ≡ Ok m → Went columns room old u m a p s
 step_done {columns} {room} {old} (going b) {m = m} {a} {p} {s} (n, (e, k)) f = let y : n ≡ m = cc in record { board = b; is = refl; ready = subst (λ (x : Matrix). Ready columns room old b x a p s) y k }
 step_done (stopped n i) (e, k) f = let y : ◌≡◌ {A = ℕ} 0 1 = cc in absurd (omega arith)
 
-pub record Halted (columns : Bool) (room : Both ℕ) (old : List ℤ) (u : Run) (n i : ℕ) (answers primary secondary : List ℤ) : Type 0 where
-  pub is : u ≡ stopped n i
+pub record Halted (columns : Bool) (room : Both ℕ) (old : List ℤ) (u : Run) (r : Refusal) (answers primary secondary : List ℤ) : Type 0 where
+  pub number : ℕ
+  pub index : ℕ
+  pub is : u ≡ stopped number index
+  pub refusal : r ≡ numbered number index
   pub left : Stopped columns room old answers primary secondary
 
-pub step_refused : (columns : Bool) (room : Both ℕ) (old : List ℤ) (u : Run) (r : Stepped) {n i : ℕ} (a p s : List ℤ) → AfterStep columns room old u r a p s → r ≡ Refused n i → Halted columns room old u n i a p s
-step_refused columns room old (going b) r a p s (m, (e, k)) f = let y : ◌≡◌ {A = ℕ} 0 1 = cc in absurd (omega arith)
-step_refused columns room old (stopped n i) r a p s (e, k) f = record { is = cc; left = k }
+pub step_refused : (columns : Bool) (room : Both ℕ) (old : List ℤ) (u : Run) (r : Refusal) (a p s : List ℤ) → AfterStep columns room old u (Err r) a p s → Halted columns room old u r a p s
+step_refused columns room old (going b) r a p s (m, (e, k)) = let y : ◌≡◌ {A = ℕ} 0 1 = cc in absurd (omega arith)
+step_refused columns room old (stopped n i) r a p s (e, k) = record { number = n; index = i; is = refl; refusal = cc; left = k }
 
 -- ---- the walk by its steps
 
@@ -59,10 +63,12 @@ module _ (w : Setting) (growth : Both TrackCounts → Both TrackCounts) (qs : Li
   walk_last b₁ b₂ e f = rw (e, f)
 
 -- a step that has stopped ends the walk with the same answer
-pub ends_walk : (columns : Bool) (room : Both ℕ) (old : List ℤ) (u v : Run) (r : Stepped) (n i : ℕ) (a p s : List ℤ) → AfterStep columns room old u r a p s → u ≡ stopped n i → v ≡ stopped n i → AfterStep columns room old v r a p s
-ends_walk columns room old u v r n i a p s k e f = subst (λ (x : Run). AfterStep columns room old x r a p s) (e ∙ sym f) k
+pub ends_walk : (columns : Bool) (room : Both ℕ) (old : List ℤ) (u v : Run) (r : Refusal) (a p s : List ℤ) → AfterStep columns room old u (Err r) a p s → ((n i : ℕ) → u ≡ stopped n i → v ≡ stopped n i) → AfterStep columns room old v (Err r) a p s
+ends_walk columns room old u v r a p s k f =
+    let h = step_refused columns room old u r a p s k in
+    subst (λ (x : Run). AfterStep columns room old x (Err r) a p s) (h.is ∙ sym (f h.number h.index h.is)) k
 
-pub same_run : (columns : Bool) (room : Both ℕ) (old : List ℤ) (u v : Run) (r : Stepped) (a p s : List ℤ) → AfterStep columns room old u r a p s → u ≡ v → AfterStep columns room old v r a p s
+pub same_run : (columns : Bool) (room : Both ℕ) (old : List ℤ) (u v : Run) (r : Result Matrix Refusal) (a p s : List ℤ) → AfterStep columns room old u r a p s → u ≡ v → AfterStep columns room old v r a p s
 same_run columns room old u v r a p s k e = subst (λ (x : Run). AfterStep columns room old x r a p s) e k
 
 -- ---- cleared lists stand for an empty board
@@ -118,11 +124,11 @@ module _ (columns : Bool) (p s : TrackCounts) (f : Sound p) (g : Sound s) (old p
 -- ---- what a run leaves
 
 module _ (columns dense : Bool) (items : List ℤ) (p s : TrackCounts) (old : List ℤ) (pl sl : ℕ) where
-  pub run_done : (m : Matrix) (a p' s' : List ℤ) (r : Stepped) → AfterStep columns (laid (axis_of columns) pl sl) old (run_for columns dense items p s pl sl) r a p' s' → r ≡ Done m
-      → AfterRun columns dense items p s old pl sl (Done m) a p' s'
-  run_done m a p' s' r k e =
-      let v = step_done (run_for columns dense items p s pl sl) k e in
-      subst (λ (u : Run). LeftBy columns old pl sl u (Done m) a p' s') (sym v.is) (
+  pub run_done : (m : Matrix) (a p' s' : List ℤ) → AfterStep columns (laid (axis_of columns) pl sl) old (run_for columns dense items p s pl sl) (Ok m) a p' s'
+      → AfterRun columns dense items p s old pl sl (Ok m) a p' s'
+  run_done m a p' s' k =
+      let v = step_done (run_for columns dense items p s pl sl) k refl in
+      subst (λ (u : Run). LeftBy columns old pl sl u (Ok m) a p' s') (sym v.is) (
         m,
         (
           refl,
@@ -142,13 +148,25 @@ module _ (columns dense : Bool) (items : List ℤ) (p s : TrackCounts) (old : Li
         ),
       )
 
-  pub run_refused : (n i : ℕ) (a p' s' : List ℤ) (r : Stepped) → AfterStep columns (laid (axis_of columns) pl sl) old (run_for columns dense items p s pl sl) r a p' s' → r ≡ Refused n i
+  pub run_refused : (r : Refusal) (a p' s' : List ℤ) → AfterStep columns (laid (axis_of columns) pl sl) old (run_for columns dense items p s pl sl) (Err r) a p' s'
       → (a'' p'' s'' : List ℤ) → a'' ≡ replicate (length a) (pos 0) → p'' ≡ replicate (length p') (pos 0) → s'' ≡ replicate (length s') (pos 0)
-      → AfterRun columns dense items p s old pl sl (Refused n i) a'' p'' s''
-  run_refused n i a p' s' r k e a'' p'' s'' x y z =
-      let v = step_refused columns (laid (axis_of columns) pl sl) old (run_for columns dense items p s pl sl) r a p' s' k e in
-      subst (λ (u : Run). LeftBy columns old pl sl u (Refused n i) a'' p'' s'') (sym v.is)
-      (refl, (x ∙ ap zeros v.left.answers_long, (y ∙ ap zeros (v.left.primary_long ∙ on_laid columns pl sl), z ∙ ap zeros (v.left.secondary_long ∙ off_laid columns pl sl))))
+      → AfterRun columns dense items p s old pl sl (Err r) a'' p'' s''
+  run_refused r a p' s' k a'' p'' s'' x y z =
+      let v = step_refused columns (laid (axis_of columns) pl sl) old (run_for columns dense items p s pl sl) r a p' s' k in
+      subst (λ (u : Run). LeftBy columns old pl sl u (Err r) a'' p'' s'') (sym v.is)
+      (ap (λ (t : Refusal). Err t) v.refusal, (x ∙ ap zeros v.left.answers_long, (y ∙ ap zeros (v.left.primary_long ∙ on_laid columns pl sl), z ∙ ap zeros (v.left.secondary_long ∙ off_laid columns pl sl))))
     where
       zeros : ℕ → List ℤ
       zeros k = replicate k (pos 0)
+
+  -- by whether it was refused
+  pub run_kept : (r : Result Matrix Refusal) (a p' s' : List ℤ) → AfterStep columns (laid (axis_of columns) pl sl) old (run_for columns dense items p s pl sl) r a p' s' → is_err r ≡ false
+      → AfterRun columns dense items p s old pl sl r a p' s'
+  run_kept (Ok m) a p' s' k e = run_done m a p' s' k
+  run_kept (Err r) a p' s' k e = cc
+
+  pub run_cleared : (r : Result Matrix Refusal) (a p' s' : List ℤ) → AfterStep columns (laid (axis_of columns) pl sl) old (run_for columns dense items p s pl sl) r a p' s' → is_err r ≡ true
+      → (a'' p'' s'' : List ℤ) → a'' ≡ replicate (length a) (pos 0) → p'' ≡ replicate (length p') (pos 0) → s'' ≡ replicate (length s') (pos 0)
+      → AfterRun columns dense items p s old pl sl r a'' p'' s''
+  run_cleared (Ok m) a p' s' k e a'' p'' s'' x y z = cc
+  run_cleared (Err r) a p' s' k e a'' p'' s'' x y z = run_refused r a p' s' k a'' p'' s'' x y z

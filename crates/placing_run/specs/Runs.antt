@@ -1,16 +1,15 @@
 -- What a whole run leaves, for a request that has passed the checks: by the walk from an empty board. "clears both lists and places".
-use Rattle.std.specs.Prelude.{◌≡◌, Bool, List, [], ℕ, ℤ, pos, length, replicate}
+use Rattle.std.specs.Prelude.{◌≡◌, Bool, List, [], ℕ, ℤ, pos, length, replicate, Result, Ok, Err}
 use Rattle.theory_intervals.specs.OverInt.{flat}
 use Rattle.grid_track_counts.specs.declared.TrackCounts.{TrackCounts}
 use Rattle.theory_walk.specs.Axis.{other, on, laid}
 use Rattle.theory_walk.specs.Search.{at}
 use Rattle.theory_walk.specs.Walk.{Board, Run, going, stopped, records_on, walk}
 use Rattle.theory_walk.specs.OnList.{written}
-use Rattle.placing_request.specs.Items.{axis_of}
-use Rattle.placing_request.proofs.Items.{queued}
+use Rattle.refusals.specs.declared.Refusal.{Refusal}
+use Rattle.refusals.specs.Numbers.{numbered}
+use Rattle.placing_request.specs.Items.{axis_of, queued}
 use Rattle.placing_laying.specs.declared.Matrix.{Matrix}
-use Rattle.placing_laying.specs.declared.Stepped.{Stepped}
-use Rattle.placing_laying.specs.declared.Stepped.TheVariants.{Done, Refused}
 use Rattle.placing_laying.specs.Ready.{setting_for}
 
 -- "no tiles, the request's counts"
@@ -23,18 +22,18 @@ run_for columns dense items p s pl sl = walk (setting_for columns dense (laid (a
 
 -- `old` is what the answer places of all items held, and no place more. It is answered: the final counts, the answers written there, and the lists that painting the tiles makes; or a list is too short: "with that item's
 -- index, and then the answer places of all items and both lists are zero"
-abbrev pub LeftBy : Bool → List ℤ → ℕ → ℕ → Run → Stepped → List ℤ → List ℤ → List ℤ → Type 0
+abbrev pub LeftBy : Bool → List ℤ → ℕ → ℕ → Run → Result Matrix Refusal → List ℤ → List ℤ → List ℤ → Type 0
 LeftBy columns old pl sl (going b) r answers primary secondary =
     (m : Matrix)
-    × ((r ≡ Done m)
+    × ((r ≡ Ok m)
     × ((m.primary ≡ on (axis_of columns) b.counts)
     × ((m.secondary ≡ on (other (axis_of columns)) b.counts)
     × ((answers ≡ written b.tiles old)
     × ((primary ≡ flat pl (records_on (axis_of columns) b.tiles)) × (secondary ≡ flat sl (records_on (other (axis_of columns)) b.tiles)))))))
 LeftBy columns old pl sl (stopped n i) r answers primary secondary =
-    (r ≡ Refused n i)
+    (r ≡ Err (numbered n i))
     × ((answers ≡ replicate (length old) (pos 0))
     × ((primary ≡ replicate pl (pos 0)) × (secondary ≡ replicate sl (pos 0))))
 
-abbrev pub AfterRun : Bool → Bool → List ℤ → TrackCounts → TrackCounts → List ℤ → ℕ → ℕ → Stepped → List ℤ → List ℤ → List ℤ → Type 0
+abbrev pub AfterRun : Bool → Bool → List ℤ → TrackCounts → TrackCounts → List ℤ → ℕ → ℕ → Result Matrix Refusal → List ℤ → List ℤ → List ℤ → Type 0
 AfterRun columns dense items p s old pl sl r answers primary secondary = LeftBy columns old pl sl (run_for columns dense items p s pl sl) r answers primary secondary

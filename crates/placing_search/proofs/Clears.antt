@@ -1,4 +1,5 @@
 -- A clear area by the records of the list, and what the two jumps say of it.
+use Rattle.std.specs.Prelude.{None, Option, Some, ℤ}
 use mathlib.Core.Path.{◌≡◌, refl, sym, ap, ◌∙◌}
 use mathlib.Core.Bool.{Bool, true, false, not, ◌&&◌}
 use mathlib.Core.List.{List, [], ◌∷◌}
@@ -15,8 +16,6 @@ use Rattle.theory_intervals.proofs.OverInt.{span_is}
 use Rattle.grid_coordinates.specs.declared.Lines.{Lines}
 use Rattle.grid_coordinates.specs.Line.{lines, lowest, highest}
 use Rattle.list_jumps.specs.Calls.{extent_of, collision_jump, occupied_jump}
-use Rattle.list_jumps.specs.declared.Jump.{Jump}
-use Rattle.list_jumps.specs.declared.Jump.TheVariants as J
 use Rattle.theory_intervals.proofs.Lists.{in_is}
 use Rattle.list_jumps.proofs.Cells.{Has, here, there, sound, has_order, has_cell, between_is, Cell, empty, filled, cell}
 use Rattle.list_jumps.proofs.Collisions.{extent_last, extent_free, over_free, over_next}
@@ -76,13 +75,13 @@ inside_has I.none x = elim x [ ]
 inside_has (I.more a b w) here = (a, b)
 inside_has (I.more a b w) (there m) = inside_has w m
 
-data Shape (j : Jump) : Type 0 where
-  next : (e : ℤ) → j ≡ J.Next e → Shape j
-  none : j ≡ J.Free → Shape j
+data Shape (j : Option ℤ) : Type 0 where
+  next : (e : ℤ) → j ≡ Some e → Shape j
+  none : j ≡ None → Shape j
 
-shape : (j : Jump) → Shape j
-shape (J.Next e) = next e refl
-shape J.Free = none refl
+shape : (j : Option ℤ) → Shape j
+shape (Some e) = next e refl
+shape None = none refl
 
 all_inside : (rs : List (Rec ℤ)) → all_in rs ≡ true → Inside rs lowest highest
 all_inside [] h = I.none
@@ -104,7 +103,7 @@ record Cause (rs : List (Rec ℤ)) (t₁ t₂ a b e : ℤ) : Type 0 where
   before : from <ℤ b
   past : a <ℤ e
 
-cause : (rs : List (Rec ℤ)) (t₁ t₂ a b e : ℤ) → collision_jump rs t₁ t₂ a b ≡ J.Next e → Cause rs t₁ t₂ a b e
+cause : (rs : List (Rec ℤ)) (t₁ t₂ a b e : ℤ) → collision_jump rs t₁ t₂ a b ≡ Some e → Cause rs t₁ t₂ a b e
 cause rs t₁ t₂ a b e j =
     let w = over_next (λ t. extent_of (on_track t rs) a b) (span t₁ t₂) e j in
     let r = between_is t₁ t₂ w.track (sym (span_is t₁ t₂ w.track) ∙ w.one) in
@@ -112,10 +111,10 @@ cause rs t₁ t₂ a b e j =
     record { track = w.track; from = m.from; has = m.has; low = r.0; high = r.1; before = m.before; past = m.past }
 
 -- THE JUMP SAYS NONE exactly where the area is clear
-pub free_jump : (rs : List (Rec ℤ)) (t₁ t₂ a b : ℤ) → collision_jump rs t₁ t₂ a b ≡ J.Free ↔ clear rs (lines t₁ t₂) (lines a b) ≡ true
+pub free_jump : (rs : List (Rec ℤ)) (t₁ t₂ a b : ℤ) → collision_jump rs t₁ t₂ a b ≡ None ↔ clear rs (lines t₁ t₂) (lines a b) ≡ true
 free_jump rs t₁ t₂ a b = (there_is, back_is)
   where
-    there_is : collision_jump rs t₁ t₂ a b ≡ J.Free → clear rs (lines t₁ t₂) (lines a b) ≡ true
+    there_is : collision_jump rs t₁ t₂ a b ≡ None → clear rs (lines t₁ t₂) (lines a b) ≡ true
     there_is f = go (look rs (lines t₁ t₂) (lines a b))
       where
         go : Look rs (lines t₁ t₂) (lines a b) → clear rs (lines t₁ t₂) (lines a b) ≡ true
@@ -124,10 +123,10 @@ free_jump rs t₁ t₂ a b = (there_is, back_is)
             no_both (rw (g_lt_true c b (omega signed), g_lt_true a d (omega signed)))
             (extent_free a b m (over_free (λ t. extent_of (on_track t rs) a b) t (span t₁ t₂) f (span_is t₁ t₂ t ∙ rw (g_lt_false t t₁ (omega signed), g_lt_true t t₂ (omega signed)))))
 
-    back_is : clear rs (lines t₁ t₂) (lines a b) ≡ true → collision_jump rs t₁ t₂ a b ≡ J.Free
+    back_is : clear rs (lines t₁ t₂) (lines a b) ≡ true → collision_jump rs t₁ t₂ a b ≡ None
     back_is f = go (shape (collision_jump rs t₁ t₂ a b))
       where
-        go : Shape (collision_jump rs t₁ t₂ a b) → collision_jump rs t₁ t₂ a b ≡ J.Free
+        go : Shape (collision_jump rs t₁ t₂ a b) → collision_jump rs t₁ t₂ a b ≡ None
         go (none e) = e
         go (next e j) = let k = cause rs t₁ t₂ a b e j in no_both f (blocks (lines t₁ t₂) (lines a b) k.has k.low k.high k.before k.past)
 
@@ -137,7 +136,7 @@ pub record Onward (rs : List (Rec ℤ)) (t₁ t₂ a b e : ℤ) : Type 0 where
   pub inside : e ≤ℤ pos 10000
   pub missed : (y z : ℤ) → a ≤ℤ y → y <ℤ e → b ≤ℤ z → clear rs (lines t₁ t₂) (lines y z) ≡ false
 
-pub next_jump : (rs : List (Rec ℤ)) → rules rs ≡ true → (t₁ t₂ a b e : ℤ) → collision_jump rs t₁ t₂ a b ≡ J.Next e → Onward rs t₁ t₂ a b e
+pub next_jump : (rs : List (Rec ℤ)) → rules rs ≡ true → (t₁ t₂ a b e : ℤ) → collision_jump rs t₁ t₂ a b ≡ Some e → Onward rs t₁ t₂ a b e
 next_jump rs h t₁ t₂ a b e j =
     let k = cause rs t₁ t₂ a b e j in
     let x = k.before in
@@ -148,7 +147,7 @@ next_jump rs h t₁ t₂ a b e j =
     }
 
 -- the same, of areas of just that length
-pub next_jump_as_long : (rs : List (Rec ℤ)) → rules rs ≡ true → (t₁ t₂ a b e : ℤ) → collision_jump rs t₁ t₂ a b ≡ J.Next e
+pub next_jump_as_long : (rs : List (Rec ℤ)) → rules rs ≡ true → (t₁ t₂ a b e : ℤ) → collision_jump rs t₁ t₂ a b ≡ Some e
     → (y : ℤ) → a ≤ℤ y → y <ℤ e → clear rs (lines t₁ t₂) (lines y (y +ℤ (b -ℤ a))) ≡ false
 next_jump_as_long rs h t₁ t₂ a b e j y l u = (next_jump rs h t₁ t₂ a b e j).missed y (y +ℤ (b -ℤ a)) l u (omega (signed, sum y (b -ℤ a), dif b a))
 
@@ -183,27 +182,27 @@ module _ (rs : List (Rec ℤ)) (h : rules rs ≡ true) (g e : ℤ) (within : Ins
     to : ℤ
     has : Has track from to rs
 
-  filled_track : (t₁ t₂ f : ℤ) → occupied_jump rs t₁ t₂ ≡ J.Next f → Filled t₁ t₂ f
+  filled_track : (t₁ t₂ f : ℤ) → occupied_jump rs t₁ t₂ ≡ Some f → Filled t₁ t₂ f
   filled_track t₁ t₂ f j = let k = past_the_last rs h t₁ t₂ f j in go k.track k.line k.is k.low k.high k.state (cell rs k.track k.line)
     where
       go : (t p : ℤ) → f ≡ t +ℤ pos 1 → t₁ ≤ℤ t → t <ℤ t₂ → cell_of rs t p ≢ 0 → Cell rs t p → Filled t₁ t₂ f
       go t p q l u n (empty z) = absurd (n z)
       go t p q l u n (filled c d m x y) = record { track = t; is = q; low = l; high = u; from = c; to = d; has = m }
 
-  pub free_stripe : (t₁ t₂ : ℤ) → occupied_jump rs t₁ t₂ ≡ J.Free ↔ clear rs (lines t₁ t₂) (lines g e) ≡ true
+  pub free_stripe : (t₁ t₂ : ℤ) → occupied_jump rs t₁ t₂ ≡ None ↔ clear rs (lines t₁ t₂) (lines g e) ≡ true
   free_stripe t₁ t₂ = (there_is, back_is)
     where
-      there_is : occupied_jump rs t₁ t₂ ≡ J.Free → clear rs (lines t₁ t₂) (lines g e) ≡ true
+      there_is : occupied_jump rs t₁ t₂ ≡ None → clear rs (lines t₁ t₂) (lines g e) ≡ true
       there_is f = go (look rs (lines t₁ t₂) (lines g e))
         where
           go : Look rs (lines t₁ t₂) (lines g e) → clear rs (lines t₁ t₂) (lines g e) ≡ true
           go (free z) = z
           go (taken {t = t} {c = c} m l u x y) = absurd (has_cell c (sound rs h) m (omega signed) (has_order (sound rs h) m).0 ((none_if_clear rs h t₁ t₂).0 f t c l u))
 
-      back_is : clear rs (lines t₁ t₂) (lines g e) ≡ true → occupied_jump rs t₁ t₂ ≡ J.Free
+      back_is : clear rs (lines t₁ t₂) (lines g e) ≡ true → occupied_jump rs t₁ t₂ ≡ None
       back_is z = go (shape (occupied_jump rs t₁ t₂))
         where
-          go : Shape (occupied_jump rs t₁ t₂) → occupied_jump rs t₁ t₂ ≡ J.Free
+          go : Shape (occupied_jump rs t₁ t₂) → occupied_jump rs t₁ t₂ ≡ None
           go (none f) = f
           go (next f j) = let k = filled_track t₁ t₂ f j in let o = across k.has in no_both z (blocks (lines t₁ t₂) (lines g e) k.has k.low k.high o.0 o.1)
 
@@ -212,7 +211,7 @@ module _ (rs : List (Rec ℤ)) (h : rules rs ≡ true) (g e : ℤ) (within : Ins
     pub inside : f ≤ℤ pos 10000
     pub missed : (y z : ℤ) → t₁ ≤ℤ y → y <ℤ f → t₂ ≤ℤ z → clear rs (lines y z) (lines g e) ≡ false
 
-  pub next_stripe : (t₁ t₂ f : ℤ) → occupied_jump rs t₁ t₂ ≡ J.Next f → Past t₁ t₂ f
+  pub next_stripe : (t₁ t₂ f : ℤ) → occupied_jump rs t₁ t₂ ≡ Some f → Past t₁ t₂ f
   next_stripe t₁ t₂ f j =
       let k = filled_track t₁ t₂ f j in
       let o = across k.has in

@@ -1,10 +1,16 @@
 -- One turn of a search by jumps: it has found what it looks for, or goes on without having passed over it.
+use Rattle.std.specs.Prelude.{None, Some}
 use mathlib.Core.Path.{◌≡◌, refl, ap, ◌∙◌, subst, fun_ext}
 use mathlib.Core.Bool.{Bool, true, false}
 use mathlib.Core.List.{List}
 use mathlib.Core.Logic.{◌⊎◌, inl, inr}
-use Prim.Native.Nat.{ℕ}
-use lib.IntN.{ℤ, pos, ◌+ℤ◌}
+use Prim.Native.Nat.{ℕ, ◌≤◌}
+use native.Mathlib.Omega.{arith}
+use mir.Syntax.{w16}
+use mir.Val.{SFits, to_z, of_z}
+use mir.Facts.{to_z-of_z}
+use Rattle.std.proofs.Math.Facts.{to_z_pos}
+use lib.IntN.{ℤ, pos, negsuc, ◌+ℤ◌}
 use lib.Signed.{◌≤ℤ◌, ◌<ℤ◌}
 use Rattle.theory_signed.proofs.Laws.{signed, sum}
 use Rattle.theory_intervals.specs.Records.{Rec}
@@ -12,7 +18,6 @@ use Rattle.theory_intervals.specs.Lists.{rules}
 use Rattle.grid_coordinates.specs.declared.Lines.{Lines}
 use Rattle.grid_coordinates.specs.Line.{lines, lowest, highest}
 use Rattle.list_jumps.specs.Calls.{collision_jump, occupied_jump}
-use Rattle.list_jumps.specs.declared.Jump.TheVariants as J
 use Rattle.theory_walk.specs.Axis.{from}
 use Rattle.theory_walk.specs.Search.{first_line, Place, at, first_pair, places_to}
 use Rattle.theory_walk.specs.Rules.{FirstLine, Tried, here, later}
@@ -21,6 +26,17 @@ use Rattle.placing_search.specs.Clear.{clear, whole_grid, Inside}
 use Rattle.placing_search.proofs.Clears.{free_jump, next_jump, clear_lines_beyond, clear_tracks_beyond, rules_inside, free_stripe, next_stripe, stripe_grid}
 
 -- ---- along the tracks t₁..t₂, for a span of n lines
+
+-- ---- a span from a line on, in 16 bits
+
+span_is : (n : ℕ) → n ≤ 10000 → to_z w16 n ≡ pos n
+span_is n h = to_z_pos w16 (omega arith)
+
+pub sum_fits : (p : ℤ) (n : ℕ) → n ≤ 10000 → negsuc 32767 ≤ℤ p → p ≤ℤ pos 20000 → SFits w16 (p +ℤ to_z w16 n)
+sum_fits p n h a b = omega (signed, span_is n h)
+
+pub sum_is : (p : ℤ) (n : ℕ) → n ≤ 10000 → negsuc 32767 ≤ℤ p → p ≤ℤ pos 20000 → to_z w16 (of_z w16 (p +ℤ to_z w16 n)) ≡ p +ℤ pos n
+sum_is p n h a b = to_z-of_z (sum_fits p n h a b) ∙ ap (λ (z : ℤ). p +ℤ z) (span_is n h)
 
 -- a search for the first line goes on at e
 pub record Further (ok : ℤ → Bool) (a e : ℤ) : Type 0 where
@@ -35,11 +51,11 @@ module _ (rs : List (Rec ℤ)) (h : rules rs ≡ true) (t₁ t₂ : ℤ) (n : �
   past_lines : (y : ℤ) → pos 10000 ≤ℤ y → clear_line rs (lines t₁ t₂) n y ≡ true
   past_lines y k = clear_lines_beyond rs h (lines t₁ t₂) (from y n) k
 
-  pub line_here : (a b : ℤ) → b ≡ a +ℤ pos n → collision_jump rs t₁ t₂ a b ≡ J.Free → first_line (clear_line rs (lines t₁ t₂) n) a ≡ a
+  pub line_here : (a b : ℤ) → b ≡ a +ℤ pos n → collision_jump rs t₁ t₂ a b ≡ None → first_line (clear_line rs (lines t₁ t₂) n) a ≡ a
   line_here a b q j =
       first_line_here (clear_line rs (lines t₁ t₂) n) past_lines a (subst (λ (z : ℤ). clear rs (lines t₁ t₂) (lines a z) ≡ true) q ((free_jump rs t₁ t₂ a b).0 j))
 
-  pub line_on : (a b e : ℤ) → b ≡ a +ℤ pos n → collision_jump rs t₁ t₂ a b ≡ J.Next e → Further (clear_line rs (lines t₁ t₂) n) a e
+  pub line_on : (a b e : ℤ) → b ≡ a +ℤ pos n → collision_jump rs t₁ t₂ a b ≡ Some e → Further (clear_line rs (lines t₁ t₂) n) a e
   line_on a b e q j =
       let k = next_jump rs h t₁ t₂ a b e j in
       let p = k.past in
@@ -58,12 +74,12 @@ module _ (rs : List (Rec ℤ)) (h : rules rs ≡ true) (m : ℕ) where
   past_tracks : (x : ℤ) → pos 10000 ≤ℤ x → clear_stripe rs m x ≡ true
   past_tracks x k = clear_tracks_beyond rs h (from x m) whole_grid k
 
-  pub stripe_here : (a b : ℤ) → b ≡ a +ℤ pos m → occupied_jump rs a b ≡ J.Free → first_line (clear_stripe rs m) a ≡ a
+  pub stripe_here : (a b : ℤ) → b ≡ a +ℤ pos m → occupied_jump rs a b ≡ None → first_line (clear_stripe rs m) a ≡ a
   stripe_here a b q j =
       first_line_here (clear_stripe rs m) past_tracks a
       (subst (λ (z : ℤ). clear rs (lines a z) whole_grid ≡ true) q ((free_stripe rs h lowest highest (rules_inside rs h) a b).0 j))
 
-  pub stripe_on : (a b e : ℤ) → b ≡ a +ℤ pos m → occupied_jump rs a b ≡ J.Next e → Further (clear_stripe rs m) a e
+  pub stripe_on : (a b e : ℤ) → b ≡ a +ℤ pos m → occupied_jump rs a b ≡ Some e → Further (clear_stripe rs m) a e
   stripe_on a b e q j =
       let k = next_stripe rs h lowest highest (rules_inside rs h) a b e j in
       let p = k.past in
@@ -91,13 +107,13 @@ module _ (rs : List (Rec ℤ)) (h : rules rs ≡ true) (n m : ℕ) (g e : ℤ) (
   past_pairs : (y x : ℤ) → pos 10000 ≤ℤ x → clear_pair rs n m y x ≡ true
   past_pairs y x k = clear_tracks_beyond rs h (from x m) (from y n) k
 
-  pub pair_here : (p s b t : ℤ) → t ≡ s +ℤ pos m → b ≡ p +ℤ pos n → b ≤ℤ e → collision_jump rs s t p b ≡ J.Free → pair_found rs n m g e p s ≡ at p s
+  pub pair_here : (p s b t : ℤ) → t ≡ s +ℤ pos m → b ≡ p +ℤ pos n → b ≤ℤ e → collision_jump rs s t p b ≡ None → pair_found rs n m g e p s ≡ at p s
   pair_here p s b t i j k f =
       first_pair_here n e g (clear_pair rs n m) past_pairs fits p s
       (subst (λ (z : ℤ). clear rs (from s m) (lines p z) ≡ true) j (subst (λ (z : ℤ). clear rs (lines s z) (lines p b) ≡ true) i ((free_jump rs s t p b).0 f)))
       (omega (signed, sum p (pos n)))
 
-  pub pair_on_lem : (p s b t f : ℤ) → t ≡ s +ℤ pos m → b ≡ p +ℤ pos n → collision_jump rs s t p b ≡ J.Next f → Along rs n m g e s p f
+  pub pair_on_lem : (p s b t f : ℤ) → t ≡ s +ℤ pos m → b ≡ p +ℤ pos n → collision_jump rs s t p b ≡ Some f → Along rs n m g e s p f
   pair_on_lem p s b t f i j q =
       let k = next_jump rs h s t p b f q in
       let l = k.past in

@@ -3,54 +3,45 @@
 #![tactic(auto)]
 
 ghost use Rattle.std.specs.Prelude.{◌≡◌, ◌≤◌, ℤ, pos, ◌+ℤ◌, ◌≤ℤ◌, ◌<ℤ◌};
-ghost use Rattle.theory_intervals.specs.Lists.{Holds, recs};
+ghost use Rattle.list_rules.specs.Held.{held};
 ghost use Rattle.theory_walk.specs.Axis as Axis;
 ghost use Rattle.theory_walk.specs.Search.{first_line, first_pair, places_to, at};
 ghost use Rattle.placing_search.specs.Clear.{clear, whole_grid, Inside};
 
 use grid_coordinates::Lines;
-use list_jumps::{Jump, collision_between, occupied_track_jump};
+use list_jumps::{collision_between, occupied_track_jump};
+use list_rules::Records;
 use list_tracks::{lower, lower_ahead};
 
 // The first line from `start` on at which a span lies clear of the records over the tracks. Each line is tried against the same
 // records, so where they stand is found once.
-pub fn first_free_line(list: &[i16], used: usize, tracks: Lines, start: i16, span: u16) -> i16
-    requires holds { Holds list.now used }
+pub fn first_free_line(records: Records, tracks: Lines, start: i16, span: u16) -> i16
     requires start_lt_end { tracks.start <ℤ tracks.end }
     requires le_span { (1 ≤ span) × ((span ≤ 10000) × (start ≤ℤ pos 20000)) }
-    ensures { result ≡ first_line (λ y. clear (recs used list.now) tracks (Axis.from y span)) start }
+    ensures { result ≡ first_line (λ y. clear (held records.entry) tracks (Axis.from y span)) start }
 {
-    let track_start = tracks.start;
-    let track_end = tracks.end;
     let n = span as i16;
-    let first = lower(list, 0, used, track_start as i32);
-    let past = lower(list, first, used, track_end as i32);
+    let first = lower(records, 0, tracks.start as i32);
+    let past = lower(records, first, tracks.end as i32);
     let mut line = start;
-    loop {
-        let jump = collision_between(list, first, past, line, line + n);
-        let Jump::Next(e) = jump else {
-            return line;
-        };
-        line = e;
+    while let Some(next) = collision_between(records.list, first, past, line, line + n) {
+        line = next;
     }
+    line
 }
 
 // The first track line from `start` on from which `span` tracks have no record at all: for a tile as wide as the grid, which has
 // room on tracks without a record and on no others.
-pub fn first_free_stripe(list: &[i16], used: usize, start: i16, span: u16) -> i16
-    requires holds { Holds list.now used }
-    requires le_span { (1 ≤ span) × ((span ≤ 10000) × (start ≤ℤ pos 20000)) }
-    ensures { result ≡ first_line (λ x. clear (recs used list.now) (Axis.from x span) whole_grid) start }
+pub fn first_free_stripe(records: Records, start: i16, span: u16) -> i16
+    requires { (1 ≤ span) × ((span ≤ 10000) × (start ≤ℤ pos 20000)) }
+    ensures { result ≡ first_line (λ x. clear (held records.entry) (Axis.from x span) whole_grid) start }
 {
     let m = span as i16;
     let mut track = start;
-    loop {
-        let jump = occupied_track_jump(list, used, track, track + m);
-        let Jump::Next(after) = jump else {
-            return track;
-        };
+    while let Some(after) = occupied_track_jump(records, track, track + m) {
         track = after;
     }
+    track
 }
 
 // A primary and a secondary line.
@@ -65,20 +56,18 @@ pub struct Pair {
 // those of the secondary axis. A tile as wide as the grid has one place on a line, so its search goes by whole tracks. The records
 // that a tile can meet on a secondary line are those from `first` up to `past`; those of the next line are right behind.
 pub fn first_free_pair(
-    list: &[i16],
-    used: usize,
+    records: Records,
     grid: Lines,
     primary_span: u16,
     secondary_span: u16,
     from: Pair,
 ) -> Pair
-    requires holds { Holds list.now used }
     requires le_primary_span { (1 ≤ primary_span) × (primary_span ≤ 10000) }
     requires le_secondary_span { (1 ≤ secondary_span) × (secondary_span ≤ 10000) }
     requires primary_span_bound { ((grid.start +ℤ pos primary_span) ≤ℤ grid.end) × (grid.end ≤ℤ pos 10000) }
-    requires inside { Inside (recs used list.now) grid.start grid.end }
+    requires inside { Inside (held records) grid.start grid.end }
     requires primary_bound { (from.primary ≤ℤ pos 20000) × (from.secondary ≤ℤ pos 12000) }
-    ensures { at result.primary result.secondary ≡ first_pair (places_to grid.end primary_span) grid.start (λ y x. clear (recs used list.now) (Axis.from x secondary_span) (Axis.from y primary_span)) from.primary from.secondary }
+    ensures { at result.primary result.secondary ≡ first_pair (places_to grid.end primary_span) grid.start (λ y x. clear (held records.entry) (Axis.from x secondary_span) (Axis.from y primary_span)) from.primary from.secondary }
 {
     let grid_start = grid.start;
     let grid_end = grid.end;
@@ -87,24 +76,24 @@ pub fn first_free_pair(
     let last = grid_end - n;
     let mut primary = from.primary;
     let mut secondary = from.secondary;
-    let mut first = lower(list, 0, used, secondary as i32);
-    let mut past = lower(list, first, used, (secondary + m) as i32);
+    let mut first = lower(records, 0, secondary as i32);
+    let mut past = lower(records, first, (secondary + m) as i32);
     let line = 'search: loop {
         if primary == grid_start && last == grid_start {
-            secondary = first_free_stripe(list, used, secondary, secondary_span);
+            secondary = first_free_stripe(records, secondary, secondary_span);
             break 'search grid_start;
         }
         while primary + n <= grid_end {
-            let jump = collision_between(list, first, past, primary, primary + n);
-            let Jump::Next(e) = jump else {
+            let Some(next) = collision_between(records.list, first, past, primary, primary + n)
+            else {
                 break 'search primary;
             };
-            primary = e;
+            primary = next;
         }
         secondary += 1;
         primary = grid_start;
-        first = lower_ahead(list, first, used, secondary as i32);
-        past = lower_ahead(list, past, used, (secondary + m) as i32);
+        first = lower_ahead(records, first, secondary as i32);
+        past = lower_ahead(records, past, (secondary + m) as i32);
     };
     Pair {
         primary: line,

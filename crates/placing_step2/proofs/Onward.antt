@@ -1,11 +1,12 @@
 -- Looking for the largest recorded end from the newest back: how one end more goes in, where the look may stop, and that in the sparse flow an item ends no
 -- earlier than those that its search began from.
 use mathlib.Core.Path.{◌≡◌, refl}
-use mathlib.Core.Bool.{Bool, true, false, cond}
+use mathlib.Core.Bool.{false, cond}
 use mathlib.Core.List.{List, [], ◌∷◌}
 use Prim.Native.Nat.{ℕ, ◌+◌, ◌-◌}
 use lib.IntN.{ℤ, pos, ◌+ℤ◌}
 use lib.Signed.{lt_z, ◌≤ℤ◌}
+use Rattle.std.specs.Prelude.{Option, Some, None, unwrap_or}
 use Rattle.theory_signed.specs.Parts.{up, dn}
 use Rattle.theory_signed.proofs.Laws.{signed, by_test, sum, g_lt_false}
 use Rattle.grid_coordinates.specs.declared.Lines.{Lines}
@@ -23,30 +24,35 @@ use Rattle.theory_walk.proofs.WalkLaws.{Kept}
 larger_is : (a b : ℤ) → up (larger a b) + dn a ≡ dn (larger a b) + up a + (up b + dn a - (dn b + up a))
 larger_is a b = by_test (lt_z a b) (λ t. up (cond t b a) + dn a ≡ dn (cond t b a) + up a + (up b + dn a - (dn b + up a))) (λ e. omega signed) (λ e. omega signed)
 
--- the largest of the ends that are left and, once one is found, of the best so far
-abbrev pub beside : Bool → ℤ → List ℤ → ℤ
-beside true best zs = largest best zs
-beside false best zs = largest_or best zs
+-- the largest of the ends that are left and of the furthest so far, or g
+abbrev pub beside : Option ℤ → ℤ → List ℤ → ℤ
+beside (Some furthest) g zs = largest furthest zs
+beside None g zs = largest_or g zs
 
-pub beside_end : (found : Bool) (best : ℤ) → beside found best [] ≡ best
-unfolding largest largest_or
-beside_end true best = refl
-beside_end false best = refl
+-- the furthest, once an end more is looked at
+abbrev pub further : Option ℤ → ℤ → ℤ
+further (Some furthest) e = larger e furthest
+further None e = e
 
-pub beside_next : (found : Bool) (best e : ℤ) (zs : List ℤ) → beside found best (e ∷ zs) ≡ largest (cond found (larger e best) e) zs
+pub beside_end : (furthest : Option ℤ) (g : ℤ) → beside furthest g [] ≡ unwrap_or furthest g
 unfolding largest largest_or
-beside_next false best e zs = refl
-beside_next true best e [] = omega (signed, larger_is best e, larger_is e best)
-beside_next true best e (z ∷ zs) =
+beside_end (Some e) g = refl
+beside_end None g = refl
+
+pub beside_next : (furthest : Option ℤ) (g e : ℤ) (zs : List ℤ) → beside furthest g (e ∷ zs) ≡ largest (further furthest e) zs
+unfolding largest largest_or
+beside_next None g e zs = refl
+beside_next (Some best) g e [] = omega (signed, larger_is best e, larger_is e best)
+beside_next (Some best) g e (z ∷ zs) =
     let m = largest z zs in
     omega (signed, larger_is e m, larger_is best (larger e m), larger_is e best, larger_is (larger e best) m)
 
 -- an end that none of those left passes ends the look
-pub beside_stop : (found : Bool) (best e : ℤ) (zs : List ℤ) → largest e zs ≡ e → largest (cond found (larger e best) e) zs ≡ cond found (larger e best) e
+pub beside_stop : (furthest : Option ℤ) (e : ℤ) (zs : List ℤ) → largest e zs ≡ e → largest (further furthest e) zs ≡ further furthest e
 unfolding largest
-beside_stop false best e zs h = h
-beside_stop true best e [] h = refl
-beside_stop true best e (z ∷ zs) h =
+beside_stop None e zs h = h
+beside_stop (Some best) e [] h = refl
+beside_stop (Some best) e (z ∷ zs) h =
     let m = largest z zs in
     omega (signed, larger_is e m, larger_is e best, larger_is (larger e best) m)
 

@@ -3,7 +3,7 @@
 use mathlib.Core.Path.{◌≡◌, refl, sym, ap, subst, ◌∙◌}
 use mathlib.Core.Bool.{Bool, true, false, cond, ◌&&◌}
 use mathlib.Core.List.{List, [], ◌∷◌}
-use Prim.Native.Nat.{ℕ, zero, suc, ◌+◌, ◌*◌, ◌/◌, ◌≤◌, ◌<◌}
+use Prim.Native.Nat.{ℕ, zero, suc, ◌+◌, ◌-◌, ◌*◌, ◌/◌, ◌≤◌, ◌<◌}
 use native.Mathlib.Omega.{arith}
 use borrow.Author.Tests.{eq-eqb, ltb-true, ltb-false}
 use lib.Dec.{ltb}
@@ -11,6 +11,7 @@ use lib.IntN.{ℤ, pos}
 use lib.ListN.{length, get_or, set, drop}
 use lib.Seq.{sets, get_or-set_same, get_or-set_other}
 use lib.Signed.{◌≤ℤ◌, ◌<ℤ◌}
+use Rattle.std.specs.Prelude.{Option, Some, None, Result, Ok, Err}
 use Rattle.theory_signed.specs.Parts.{eq_z}
 use Rattle.theory_signed.proofs.Laws.{signed, by_test, eq_of}
 use Rattle.theory_intervals.specs.Lists.{recs, Holds}
@@ -21,32 +22,28 @@ use Rattle.theory_walk.specs.declared.Placement.{Placement}
 use Rattle.theory_walk.specs.declared.Placement.TheVariants.{Fixed, Spanned}
 use Rattle.theory_walk.specs.Axis.{Axis, col, row, other, Both, on, laid, from, limited_area}
 use Rattle.theory_walk.specs.Search.{first_line}
-use Rattle.theory_walk.specs.Walk.{Queued, Tile, Board, Setting, Choice, Run, going, stopped, tile_of, laid_on, ends_on, start2, free_at, choose1, choose2, step1, step2, each}
+use Rattle.theory_walk.specs.Walk.{Queued, Tile, Board, Setting, Choice, Run, going, tile_of, laid_on, ends_on, largest, start2, free_at, choose1, choose2, step1, step2, each}
 use Rattle.theory_walk.specs.Rules.{mine2}
-use Rattle.theory_walk.specs.Request.{numbers, item_of}
+use Rattle.theory_walk.specs.Request.{numbers}
 use Rattle.theory_walk.specs.OnList.{written}
 use Rattle.theory_walk.proofs.Tests.{clash}
 use Rattle.theory_walk.proofs.FreeLaws.{step2_first}
 use Rattle.theory_walk.proofs.SearchLaws.{first_line_high}
-use Rattle.theory_walk.proofs.Range.{Good, lines_good, span_good, Grid, start2_grid}
+use Rattle.theory_walk.proofs.Range.{Grid, start2_grid}
 use Rattle.theory_walk.proofs.WalkLaws.{kept_laid, put_going, stay, each_keeps, anyone}
 use Rattle.theory_walk.proofs.Answers.{written_laid}
-use Rattle.theory_walk.proofs.Checks.{halves_length}
-use Rattle.theory_walk.proofs.Loops.{each_next, each_stop, each_end}
 use Rattle.placing_search.specs.Clear.{clear}
 use Rattle.placing_search.proofs.Clears.{clear_lines_beyond}
 use Rattle.placing_search.proofs.OnBoard.{line_search}
-use Rattle.placing_request.specs.Items.{axis_of, item_at}
-use Rattle.placing_request.proofs.Items.{queued, queue_drop, queue_end}
+use Rattle.placing_request.specs.Items.{axis_of, queued}
 use Rattle.placing_laying.specs.declared.Matrix.{Matrix}
-use Rattle.placing_laying.specs.declared.Laid.{Laid}
-use Rattle.placing_laying.specs.declared.Laid.TheVariants.{On, Short}
-use Rattle.placing_laying.specs.declared.Stepped.TheVariants.{Done, Refused}
+use Rattle.refusals.specs.declared.Refusal.{Refusal}
 use Rattle.placing_laying.specs.Laying.{Laying}
 use Rattle.placing_laying.specs.Ready.{setting_for, Ready, AfterItem, AfterStep, primary_of, secondary_of}
-use Rattle.placing_step2.specs.Ends.{recorded_end, recorded_start, start_place, end_place, counted, ends_before, EndsLast, Onward, start_of, Recorded, NoEnds, StandsAt}
+use Rattle.placing_step2.specs.Ends.{recorded_end, recorded_start, start_place, end_place, counted, starts_at, ends_before, EndsLast, Onward, start_of, Recorded, NoEnds}
 use Rattle.placing_laying.proofs.Lays.{put_laid, secondary_recs}
-use Rattle.placing_step2.proofs.Onward.{ends_onward}
+use Rattle.placing_laying.proofs.Steps.{next, stops, done}
+use Rattle.placing_step2.proofs.Onward.{ends_onward, beside, further, beside_next, beside_stop}
 
 -- ---- which items are this step's
 
@@ -70,29 +67,47 @@ unfolding step2
 pass_primary w i P (Fixed s) t p e = rw e
 pass_primary w i P (Spanned m) t p e = rw e
 
--- what the item rules say of the two
-pub span_in : (P : Placement) (n : ℕ) → P ≡ Spanned n → Good P → (1 ≤ n) × (n ≤ 10000)
-span_in P n e g = go (rw e at g)
-  where
-    go : Good (Spanned n) → (1 ≤ n) × (n ≤ 10000)
-    go (span_good a b) = (a, b)
-
-pub lines_in : (S : Placement) (s : Lines) → S ≡ Fixed s → Good S → s.start <ℤ s.end
-lines_in S s e g = go (rw e at g)
-  where
-    go : Good (Fixed s) → s.start <ℤ s.end
-    go (lines_good a b c) = b
-
 -- ---- the recorded ends, one item further
 
-module _ (columns : Bool) (items answers : List ℤ) (c : ℤ) (j : ℕ) where
-  pub ends_pass : counted columns items answers c j ≡ false → ends_before columns items answers c (j + 1) ≡ ends_before columns items answers c j
-  unfolding ends_before
-  ends_pass e = let f : j + 1 ≡ suc j = omega arith in rw (f, e)
+is_there : (b : Bool) (e x : ℤ) → Some x ≡ cond b (Some e) None → (b ≡ true) × (x ≡ e)
+is_there true e x h = (refl, cc)
+is_there false e x h = cc
 
-  pub ends_more : counted columns items answers c j ≡ true → ends_before columns items answers c (j + 1) ≡ recorded_end columns answers j ∷ ends_before columns items answers c j
-  unfolding ends_before
-  ends_more e = let f : j + 1 ≡ suc j = omega arith in rw (f, e)
+-- an end that is found is the newest
+abbrev pub newest : Option ℤ → List ℤ → List ℤ
+newest (Some e) zs = e ∷ zs
+newest None zs = zs
+
+pub ends_next : (columns : Bool) (items answers : List ℤ) (c : ℤ) (j : ℕ) (found : Option ℤ) → found ≡ cond (counted columns items answers c j) (Some (recorded_end columns answers j)) None
+    → ends_before columns items answers c (j + 1) ≡ newest found (ends_before columns items answers c j)
+unfolding ends_before
+ends_next columns items answers c j found e =
+    let f : j + 1 ≡ suc j = omega arith in
+    let last = recorded_end columns answers j in
+    let rest = ends_before columns items answers c j in
+    rw (f, e) (by_test (counted columns items answers c j) (λ t. cond t (last ∷ rest) rest ≡ newest (cond t (Some last) None) rest) (λ _. refl) (λ _. refl))
+
+-- looking from the newest back: what item j - 1 gives goes beside the furthest of those looked at before it
+module _ (columns : Bool) (items answers : List ℤ) (c : ℤ) (j : ℕ) (furthest : Option ℤ) (all g : ℤ) (h : 0 < j) (k : all ≡ beside furthest g (ends_before columns items answers c j)) where
+  looked : (found : Option ℤ) → found ≡ cond (counted columns items answers c (j - 1)) (Some (recorded_end columns answers (j - 1))) None
+      → all ≡ beside furthest g (newest found (ends_before columns items answers c (j - 1)))
+  looked found e =
+      let f : j ≡ (j - 1) + 1 = omega arith in
+      k ∙ ap (beside furthest g) (ap (ends_before columns items answers c) f ∙ ends_next columns items answers c (j - 1) found e)
+
+  pub passed_by : None ≡ cond (counted columns items answers c (j - 1)) (Some (recorded_end columns answers (j - 1))) None
+      → all ≡ beside furthest g (ends_before columns items answers c (j - 1))
+  passed_by e = looked None e
+
+  module _ (end : ℤ) (e : Some end ≡ cond (counted columns items answers c (j - 1)) (Some (recorded_end columns answers (j - 1))) None) where
+    pub goes_beside : all ≡ largest (further furthest end) (ends_before columns items answers c (j - 1))
+    goes_beside = looked (Some end) e ∙ beside_next furthest g end (ends_before columns items answers c (j - 1))
+
+    -- and what starts there itself ends the look
+    pub ends_look : EndsLast columns items answers (j - 1) → starts_at (secondary_of columns items (j - 1)) c ≡ true → all ≡ further furthest end
+    ends_look last s =
+        let there = is_there (counted columns items answers c (j - 1)) (recorded_end columns answers (j - 1)) end e in
+        goes_beside ∙ beside_stop furthest end (ends_before columns items answers c (j - 1)) (rw there.1 (last c there.0 s))
 
 -- ---- where the search begins, and what it finds
 
@@ -120,7 +135,7 @@ module _ {columns : Bool} (dense : Bool) {room : Both ℕ} {old : List ℤ} {b :
   -- the item is laid where the walk lays it
   pub step2_laid : (P S : Placement) (n : ℕ) (s p : Lines) → P ≡ Spanned n → S ≡ Fixed s → 1 ≤ n → s.start <ℤ s.end
       → p ≡ from (first_line (λ y. clear (recs m.secondary_used secondary) s (from y n)) (start_of columns dense items answers s.start i (grid_start m.primary))) n
-      → {r : Laid} {a' p' s' : List ℤ} → Laying columns p s (pos 2) 0 m i answers primary secondary r a' p' s'
+      → {r : Result Matrix Refusal} {a' p' s' : List ℤ} → Laying columns p s (pos 2) 0 m i answers primary secondary r a' p' s'
       → AfterItem columns room old i (step2 w i P S b) r a' p' s'
   unfolding step2 choose2
   step2_laid P S n s p e f g h l q =
@@ -215,7 +230,7 @@ module _ (dense : Bool) {columns : Bool} {room : Both ℕ} {old : List ℤ} {b :
   stayed : mine2 (primary_of columns items i) (secondary_of columns items i) ≡ false → b ≡ b' → Recorded columns items a' b' (i + 1)
   stayed mine e c =
       let no : counted columns items a' c i ≡ false = rw mine in
-      sym (ap (λ (t : Board). ends_on (axis_of columns) c t.tiles) e) ∙ rec c ∙ sym (ends_pass columns items a' c i no ∙ ap (λ (l : List ℤ). ends_before columns items l c i) (same_answers e))
+      sym (ap (λ (t : Board). ends_on (axis_of columns) c t.tiles) e) ∙ rec c ∙ sym (ends_next columns items a' c i None (rw no) ∙ ap (λ (l : List ℤ). ends_before columns items l c i) (same_answers e))
 
   -- and one that is laid
   laid_on_lem : (h : Choice) → h.step ≡ 2 → mine2 (primary_of columns items i) (secondary_of columns items i) ≡ true → laid_on i h b ≡ b' → Recorded columns items a' b' (i + 1)
@@ -299,83 +314,42 @@ pub record Going (columns dense : Bool) (items : List ℤ) (i : ℕ) (room : Bot
 abbrev pub Turn : (columns dense : Bool) (items : List ℤ) (i : ℕ) (m₀ : Matrix) (a₀ p₀ s₀ : List ℤ) (m : Matrix) (a p s : List ℤ) → Type 0
 Turn columns dense items i m₀ a₀ p₀ s₀ m a p s = (room : Both ℕ) (old : List ℤ) (b : Board) → Ready columns room old b m₀ a₀ p₀ s₀ → NoEnds columns b → Going columns dense items i room old b m a p s
 
--- what an item's function promises
-abbrev pub Placed : (columns dense : Bool) (items : List ℤ) (i : ℕ) (m : Matrix) (a p s : List ℤ) (r : Laid) (a' p' s' : List ℤ) → Type 0
-Placed columns dense items i m a p s r a' p' s' =
-    (room : Both ℕ) (old : List ℤ) (b : Board) → Ready columns room old b m a p s → Recorded columns items a b i
-    → AfterItem columns room old i (step2 (setting_for columns dense room) i (primary_of columns items i) (secondary_of columns items i) b) r a' p' s'
-
 module _ {columns dense : Bool} {items : List ℤ} {m₀ : Matrix} {a₀ p₀ s₀ : List ℤ} where
   pub turn_first : Turn columns dense items 0 m₀ a₀ p₀ s₀ m₀ a₀ p₀ s₀
   unfolding ends_before
   turn_first room old b k n = record { board = b; ready = k; recorded = n; onward = λ d j h. absurd (let z : ⊥ = omega arith in z); rest = refl }
 
   module _ {i : ℕ} {m : Matrix} {a p s : List ℤ} (t : Turn columns dense items i m₀ a₀ p₀ s₀ m a p s) where
-    pub turn_stands : (room : Both ℕ) (old : List ℤ) (b : Board) → Ready columns room old b m₀ a₀ p₀ s₀ → NoEnds columns b → StandsAt columns items i m a p s
-    turn_stands room old b k n = let g = t room old b k n in (room, (old, (g.board, (g.ready, g.recorded))))
+    -- what item i's function promises
+    abbrev Item : Result Matrix Refusal → List ℤ → List ℤ → List ℤ → Type 0
+    Item r a' p' s' =
+        (room : Both ℕ) (old : List ℤ) (b : Board) → Ready columns room old b m a p s → Recorded columns items a b i
+        → AfterItem columns room old i (step2 (setting_for columns dense room) i (primary_of columns items i) (secondary_of columns items i) b) r a' p' s'
 
-    pub turn_onward : (room : Both ℕ) (old : List ℤ) (b : Board) → Ready columns room old b m₀ a₀ p₀ s₀ → NoEnds columns b → dense ≡ false → Onward columns items a i
-    turn_onward room old b k n = (t room old b k n).onward
+    pub turn_next : i < length items / 6 → 5 * i + 5 ≤ length a → {m' : Matrix} {a' p' s' : List ℤ} → Item (Ok m') a' p' s' → Turn columns dense items (i + 1) m₀ a₀ p₀ s₀ m' a' p' s'
+    turn_next h long q room old b k n =
+        let g = t room old b k n in
+        let x = next columns dense room old items (step2 (setting_for columns dense room)) i g.board h (q room old g.board g.ready g.recorded) in
+        record {
+          board = x.board;
+          ready = x.ready;
+          recorded = recorded_next dense g.ready items i long g.recorded x.board x.ready x.ran;
+          onward = λ d. onward_next dense g.ready items i long g.recorded x.board x.ready d (g.onward d) x.ran;
+          rest = g.rest ∙ x.rest;
+        }
 
-    module _ (inside-queue : i < length items / 6) (long : 5 * i + 5 ≤ length a) where
-      here : drop i (queued items) ≡ record { index = i; item = item_of (item_at items i) } ∷ drop (i + 1) (queued items)
-      here = queue_drop items i (omega (arith, halves_length items))
-
-      pub turn_next : (next : Matrix) (r : Laid) (a' p' s' : List ℤ) → r ≡ On next → Placed columns dense items i m a p s r a' p' s' → Turn columns dense items (i + 1) m₀ a₀ p₀ s₀ next a' p' s'
-      turn_next next r a' p' s' q f room old b k n = go (step2 w i P S g.board) refl (f room old g.board g.ready g.recorded)
-        where
-          w : Setting
-          w = setting_for columns dense room
-
-          P : Placement
-          P = primary_of columns items i
-
-          S : Placement
-          S = secondary_of columns items i
-
-          g : Going columns dense items i room old b m a p s
-          g = t room old b k n
-
-          go : (u : Run) → step2 w i P S g.board ≡ u → AfterItem columns room old i u r a' p' s' → Going columns dense items (i + 1) room old b next a' p' s'
-          go (going b') e (m', (h, k')) =
-              let same : m' ≡ next = cc in
-              record {
-                board = b';
-                ready = subst (λ (y : Matrix). Ready columns room old b' y a' p' s') same k';
-                recorded = recorded_next dense g.ready items i long g.recorded b' k' e;
-                onward = λ d. onward_next dense g.ready items i long g.recorded b' k' d (g.onward d) e;
-                rest = g.rest ∙ ap (λ (qs : List Queued). each w (step2 w) qs g.board) here ∙ each_next w (step2 w) (record { index = i; item = item_of (item_at items i) }) (drop (i + 1) (queued items)) g.board b' e;
-              }
-          go (stopped n₁ j) e (h, z) = absurd (let o₁ : ◌≡◌ {A = ℕ} 0 1 = cc in omega arith)
-
-      pub turn_stop : (number : ℕ) (r : Laid) (a' p' s' : List ℤ) → r ≡ Short number → Placed columns dense items i m a p s r a' p' s' → (room : Both ℕ) (old : List ℤ) (b : Board) → Ready columns room old b m₀ a₀ p₀ s₀ → NoEnds columns b
-          → AfterStep columns room old (each (setting_for columns dense room) (step2 (setting_for columns dense room)) (queued items) b) (Refused number i) a' p' s'
-      turn_stop number r a' p' s' q f room old b k n = go (step2 w i P S g.board) refl (f room old g.board g.ready g.recorded)
-        where
-          w : Setting
-          w = setting_for columns dense room
-
-          P : Placement
-          P = primary_of columns items i
-
-          S : Placement
-          S = secondary_of columns items i
-
-          g : Going columns dense items i room old b m a p s
-          g = t room old b k n
-
-          go : (u : Run) → step2 w i P S g.board ≡ u → AfterItem columns room old i u r a' p' s' → AfterStep columns room old (each w (step2 w) (queued items) b) (Refused number i) a' p' s'
-          go (going b') e (m', (h, k')) = absurd (let o₁ : ◌≡◌ {A = ℕ} 0 1 = cc in omega arith)
-          go (stopped n₁ j) e (h, (v, z)) =
-              let all : each w (step2 w) (queued items) b ≡ stopped n₁ j = g.rest ∙ ap (λ (qs : List Queued). each w (step2 w) qs g.board) here ∙ each_stop w (step2 w) (record { index = i; item = item_of (item_at items i) }) (drop (i + 1) (queued items)) g.board n₁ j e in
-              let number_is : number ≡ n₁ = cc in
-              let told : Refused number i ≡ Refused n₁ j = cc in
-              subst (λ (u : Run). AfterStep columns room old u (Refused number i) a' p' s') (sym all) (told, z)
+    -- the item that ends the step
+    pub turn_stops : i < length items / 6 → (refusal : Refusal) (a' p' s' : List ℤ) → Item (Err refusal) a' p' s'
+        → (room : Both ℕ) (old : List ℤ) (b : Board) → Ready columns room old b m₀ a₀ p₀ s₀ → NoEnds columns b
+        → AfterStep columns room old (each (setting_for columns dense room) (step2 (setting_for columns dense room)) (queued items) b) (Err refusal) a' p' s'
+    turn_stops h refusal a' p' s' q room old b k n =
+        let g = t room old b k n in
+        subst (λ (u : Run). AfterStep columns room old u (Err refusal) a' p' s') (sym g.rest)
+        (stops columns dense room old items (step2 (setting_for columns dense room)) i g.board h refusal a' p' s' (q room old g.board g.ready g.recorded))
 
     pub turn_last : length items / 6 ≤ i → (room : Both ℕ) (old : List ℤ) (b : Board) → Ready columns room old b m₀ a₀ p₀ s₀ → NoEnds columns b
-        → AfterStep columns room old (each (setting_for columns dense room) (step2 (setting_for columns dense room)) (queued items) b) (Done m) a p s
+        → AfterStep columns room old (each (setting_for columns dense room) (step2 (setting_for columns dense room)) (queued items) b) (Ok m) a p s
     turn_last h room old b k n =
-        let w = setting_for columns dense room in
         let g = t room old b k n in
-        let all : each w (step2 w) (queued items) b ≡ going g.board = g.rest ∙ ap (λ (qs : List Queued). each w (step2 w) qs g.board) (queue_end items i (omega (arith, halves_length items))) ∙ each_end w (step2 w) g.board in
-        subst (λ (u : Run). AfterStep columns room old u (Done m) a p s) (sym all) (m, (refl, g.ready))
+        subst (λ (u : Run). AfterStep columns room old u (Ok m) a p s) (sym g.rest)
+        (done columns dense room old items (step2 (setting_for columns dense room)) i g.board h g.ready)

@@ -1,5 +1,6 @@
 -- Step 4 on the lists: what the program settles from the cursor, the counts and one list is what the walk settles on the board, and laying it moves the
 -- cursor as the walk does.
+use Rattle.std.specs.Prelude.{Result, Ok, Err}
 use mathlib.Core.Path.{◌≡◌, refl, sym, ap, subst, ◌∙◌}
 use mathlib.Core.Bool.{Bool, true, false, cond}
 use mathlib.Core.List.{List}
@@ -18,41 +19,28 @@ use Rattle.grid_track_counts.specs.declared.TrackCounts.{TrackCounts}
 use Rattle.grid_track_counts.specs.Counts.{grid_start, grid_end, Sound}
 use Rattle.theory_walk.specs.Axis.{Axis, other, Both, on, laid, from}
 use Rattle.theory_walk.specs.Search.{first_line, Place, at}
-use Rattle.theory_walk.specs.Request.{item_of}
+use Rattle.theory_walk.specs.Request.{good_item}
 use Rattle.theory_walk.specs.Rules.{Rule4, finds_line, finds_pair, lays_untested}
 use Rattle.theory_walk.specs.declared.Placement.{Placement}
 use Rattle.theory_walk.specs.declared.Placement.TheVariants.{Fixed, Spanned}
-use Rattle.theory_walk.specs.Walk.{Queued, Board, Setting, Choice, Run, going, stopped, bit, laid_on, put, moved, start4, free_across, choose_line, overwide, pair_of, untested, choose_pair, step4, each, begin4, last4}
+use Rattle.theory_walk.specs.Walk.{Board, Setting, Choice, Run, going, stopped, bit, laid_on, put, moved, start4, free_across, choose_line, overwide, pair_of, untested, choose_pair, step4, each, begin4, last4}
 use Rattle.theory_walk.proofs.LinesLaws.{start_low, start_high}
 use Rattle.theory_walk.proofs.Cells.{records_rules}
 use Rattle.theory_walk.proofs.FreeLaws.{choose_line_rule, choose_pair_rule}
 use Rattle.theory_walk.proofs.WalkLaws.{Fair, kept_laid, put_going}
 use Rattle.theory_walk.proofs.Range.{Good, lines_good, span_good, Within, WithinArea, CursorIn, within_pair, GoodItem, run4_item}
-use Rattle.theory_walk.proofs.Loops.{each_next, each_stop, each_end}
-use Rattle.theory_walk.proofs.Checks.{halves_length}
 use Rattle.placing_search.specs.Clear.{clear, Inside}
 use Rattle.placing_search.specs.declared.Pair.{Pair}
 use Rattle.placing_search.proofs.OnBoard.{inside_board, across_search, pair_search}
-use Rattle.placing_request.specs.Items.{axis_of, item_at}
-use Rattle.placing_request.proofs.Items.{queued, queue_drop, queue_end, good_placement}
+use Rattle.placing_request.specs.Items.{axis_of, item_at, queued}
+use Rattle.refusals.specs.declared.Refusal.{Refusal}
 use Rattle.placing_laying.specs.declared.Matrix.{Matrix}
-use Rattle.placing_laying.specs.declared.Laid.{Laid}
-use Rattle.placing_laying.specs.declared.Stepped.TheVariants.{Done, Refused}
-use Rattle.placing_step4.specs.declared.Turn.{Turn}
-use Rattle.placing_step4.specs.declared.Turn.TheVariants.{On, Short}
 use Rattle.placing_laying.specs.Laying.{Laying}
-use Rattle.placing_laying.specs.Ready.{setting_for, Ready, AfterItem, AfterStep, Items, primary_of, secondary_of}
+use Rattle.placing_laying.specs.Ready.{setting_for, Ready, AfterItem, AfterStep, primary_of, secondary_of}
 use Rattle.placing_step4_choice.specs.Cursor.{place_of, start_on, line_on, pair_on}
-use Rattle.placing_step4.specs.Turns.{turn_of, AfterTurn}
+use Rattle.placing_step4.specs.Turns.{AfterTurn}
 use Rattle.placing_laying.proofs.Lays.{put_laid, primary_recs, secondary_recs}
-
--- ---- what a good item's placement is
-
-pub in_order : {p : Lines} → Good (Fixed p) → p.start <ℤ p.end
-in_order (lines_good a b c) = b
-
-pub span_in : {n : ℕ} → Good (Spanned n) → (1 ≤ n) × (n ≤ 10000)
-span_in (span_good a b) = (a, b)
+use Rattle.placing_laying.proofs.Steps.{both_good, span_in, next, stops, done}
 
 -- bit 4 or none
 pub mark_good : (t : Bool) (flags : ℕ) → flags ≡ bit 4 t → (flags % 2 ≡ 0) × (flags < 8)
@@ -86,20 +74,29 @@ laid_cursor : (i : ℕ) (h : Choice) (b t : Board) → laid_on i h b ≡ t → h
 unfolding laid_on
 laid_cursor i h b t e = rw (← e)
 
+-- what laying a tile came to, with the cursor that goes with it
+abbrev pub turn_of : Result Matrix Refusal → Pair → Result (Matrix × Pair) Refusal
+turn_of (Ok m) z = Ok (m, z)
+turn_of (Err x) z = Err x
+
+-- a place of the walk as the program's pair of lines
+abbrev pub pair_at : Place → Pair
+pair_at y = record { primary = y.primary; secondary = y.secondary }
+
 module _ (columns : Bool) (room : Both ℕ) (old : List ℤ) where
-  turn : (w : Setting) (i : ℕ) (h : Choice) (b : Board) (z : Pair) → h.cursor ≡ place_of z → (r : Laid) (a p s : List ℤ) → AfterItem columns room old i (put w i h b) r a p s
+  turn : (w : Setting) (i : ℕ) (h : Choice) (b : Board) (z : Pair) → h.cursor ≡ place_of z → (r : Result Matrix Refusal) (a p s : List ℤ) → AfterItem columns room old i (put w i h b) r a p s
       → AfterTurn columns room old i (put w i h b) (turn_of r z) a p s
   turn w i h b z e r a p s g = go (put w i h b) refl g
     where
       go : (u : Run) → put w i h b ≡ u → AfterItem columns room old i u r a p s → AfterTurn columns room old i u (turn_of r z) a p s
-      go (going t) f (m, (x, k)) = (m, (z, (ap (λ (y : Laid). turn_of y z) x, (k, sym (laid_cursor i h b t (put_going w i h b t f)) ∙ e))))
-      go (stopped n j) f (x, y) = (ap (λ (v : Laid). turn_of v z) x, y)
+      go (going t) f (m, (x, k)) = (m, (z, (ap (λ (y : Result Matrix Refusal). turn_of y z) x, (k, sym (laid_cursor i h b t (put_going w i h b t f)) ∙ e))))
+      go (stopped n j) f (x, y) = (ap (λ (v : Result Matrix Refusal). turn_of v z) x, y)
 
 module _ {columns : Bool} {room : Both ℕ} {old : List ℤ} where
   -- an item that an earlier step has laid
   pub stays : {b : Board} {m : Matrix} {a p s : List ℤ} (i : ℕ) (q : Pair) → Ready columns room old b m a p s → b.cursor ≡ place_of q
-      → (u : Run) → u ≡ going b → AfterTurn columns room old i u (On m q) a p s
-  stays {b} {m} {a} {p} {s} i q k e u f = subst (λ (v : Run). AfterTurn columns room old i v (On m q) a p s) (sym f) (m, (q, (refl, (k, e))))
+      → (u : Run) → u ≡ going b → AfterTurn columns room old i u (Ok (m, q)) a p s
+  stays {b} {m} {a} {p} {s} i q k e u f = subst (λ (v : Run). AfterTurn columns room old i v (Ok (m, q)) a p s) (sym f) (m, (q, (refl, (k, e))))
 
 -- the lines of an area by the axis
 within_both : (c : Bool) (p s : Lines) → WithinArea (laid (axis_of c) p s) → Within p × Within s
@@ -161,7 +158,7 @@ module _ {columns : Bool} {room : Both ℕ} {old : List ℤ} {b : Board} {m : Ma
     pub line_laid : (once : Pair) (i : ℕ) (p s : Lines) (n : ℕ) → Good (Fixed p) → Good (Spanned n)
         → s ≡ from (line_on dense q m.secondary p n (recs m.primary_used primary)) n
         → (z : Pair) → place_of z ≡ cond dense (place_of once) (at p.end s.start)
-        → (r : Laid) (a' p' s' : List ℤ) → Laying columns p s (pos 2) 0 m i answers primary secondary r a' p' s'
+        → (r : Result Matrix Refusal) (a' p' s' : List ℤ) → Laying columns p s (pos 2) 0 m i answers primary secondary r a' p' s'
         → AfterTurn columns room old i (put w i (choose_line w (place_of once) p n b) b) (turn_of r z) a' p' s'
     unfolding choose_line moved
     line_laid once i p s n (lines_good c d f) (span_good g h) x z y r a' p' s' v =
@@ -192,7 +189,7 @@ module _ {columns : Bool} {room : Both ℕ} {old : List ℤ} {b : Board} {m : Ma
         → place_of place ≡ pair_on q m.primary n l (recs m.secondary_used secondary) → flags ≡ bit 4 (overwide n m.primary)
         → p ≡ from place.primary n → s ≡ from place.secondary l
         → (z : Pair) → place_of z ≡ cond dense (place_of once) (at p.end s.start)
-        → (r : Laid) (a' p' s' : List ℤ) → Laying columns p s (pos 2) flags m i answers primary secondary r a' p' s'
+        → (r : Result Matrix Refusal) (a' p' s' : List ℤ) → Laying columns p s (pos 2) flags m i answers primary secondary r a' p' s'
         → AfterTurn columns room old i (put w i (choose_pair w (place_of once) n l b) b) (turn_of r z) a' p' s'
     unfolding choose_pair moved
     pair_laid once i p s n l flags (span_good f g) (span_good h h') place x fl pe se z y r a' p' s' v =
@@ -245,81 +242,71 @@ going_none columns dense items m once a p s o e = record { once_near = o; from_s
           same = ap (λ (z : Place). each w (step4 w z) (queued items) (record { tiles = b.tiles; counts = b.counts; cursor = x })) (sym c);
         }
 
-module _ {columns dense : Bool} {items : List ℤ} {m₀ : Matrix} {a₀ p₀ s₀ : List ℤ} {once : Pair} {i : ℕ} {m : Matrix} {q : Pair} {a p s : List ℤ} (g : Going columns dense items m₀ a₀ p₀ s₀ once i m q a p s) (h : i < length items / 6) where
-  abbrev Item : Turn → List ℤ → List ℤ → List ℤ → Type 0
+-- a turn without its cursor
+same_turn : (m n : Matrix) (z y : Pair) → ◌≡◌ {A = Result (Matrix × Pair) Refusal} (Ok (m, z)) (Ok (n, y)) → (m ≡ n) × (z ≡ y)
+same_turn m n z y e =
+    let f : ◌≡◌ {A = Matrix × Pair} (m, z) (n, y) = cc in
+    (ap (λ (x : Matrix × Pair). x.0) f, ap (λ (x : Matrix × Pair). x.1) f)
+
+module _ (columns : Bool) (room : Both ℕ) (old : List ℤ) (i : ℕ) (a p s : List ℤ) where
+  item_on : (u : Run) (m : Matrix) (z : Pair) → AfterTurn columns room old i u (Ok (m, z)) a p s → AfterItem columns room old i u (Ok m) a p s
+  item_on (going t) m z (n, (y, (e, (k, c)))) = (n, (ap Ok (same_turn m n z y e).0, k))
+  item_on (stopped n j) m z (e, f) = cc
+
+  item_stops : (u : Run) (x : Refusal) → AfterTurn columns room old i u (Err x) a p s → AfterItem columns room old i u (Err x) a p s
+  item_stops (going t) x (n, (y, (e, f))) = cc
+  item_stops (stopped n j) x (e, f) = (cc, f)
+
+  turn_cursor : (t : Board) (m : Matrix) (z : Pair) → AfterTurn columns room old i (going t) (Ok (m, z)) a p s → t.cursor ≡ place_of z
+  turn_cursor t m z (n, (y, (e, (k, c)))) = c ∙ ap place_of (sym (same_turn m n z y e).1)
+
+module _ {columns dense : Bool} {items : List ℤ} {m₀ : Matrix} {a₀ p₀ s₀ : List ℤ} {once : Pair} {i : ℕ} {m : Matrix} {q : Pair} {a p s : List ℤ} (g : Going columns dense items m₀ a₀ p₀ s₀ once i m q a p s) where
+  abbrev Item : Result (Matrix × Pair) Refusal → List ℤ → List ℤ → List ℤ → Type 0
   Item r a' p' s' =
       (room : Both ℕ) (old : List ℤ) (b : Board) → Ready columns room old b m a p s → b.cursor ≡ place_of q
       → AfterTurn columns room old i (step4 (setting_for columns dense room) (place_of once) i (primary_of columns items i) (secondary_of columns items i) b) r a' p' s'
 
-  pub going_on : Items items (length items / 6) → {m' : Matrix} {z : Pair} {a' p' s' : List ℤ} → Item (On m' z) a' p' s' → Going columns dense items m₀ a₀ p₀ s₀ once (i + 1) m' z a' p' s'
-  going_on good {m'} {z} {a'} {p'} {s'} v = record { once_near = g.once_near; from_start = λ room old b k. one room old b (g.from_start room old b k) }
+  pub going_on : i < length items / 6 → good_item (item_at items i) ≡ true → {m' : Matrix} {z : Pair} {a' p' s' : List ℤ} → Item (Ok (m', z)) a' p' s' → Going columns dense items m₀ a₀ p₀ s₀ once (i + 1) m' z a' p' s'
+  going_on h good {m'} {z} {a'} {p'} {s'} v = record { once_near = g.once_near; from_start = λ room old b k. one room old b (g.from_start room old b k) }
     where
       one : (room : Both ℕ) (old : List ℤ) (b : Board) → Left columns dense room old items b once i m q a p s → Left columns dense room old items b once (i + 1) m' z a' p' s'
-      one room old b l = go (step4 w (place_of once) i (primary_of columns items i) (secondary_of columns items i) l.board) refl (v room old l.board l.ready l.cursor)
-        where
-          w : Setting
-          w = setting_for columns dense room
-
-          item_good : GoodItem (primary_of columns items i) (secondary_of columns items i)
-          item_good = (good_placement items i (axis_of columns) (good.good i h), good_placement items i (other (axis_of columns)) (good.good i h))
-
-          go : (u : Run) → step4 w (place_of once) i (primary_of columns items i) (secondary_of columns items i) l.board ≡ u → AfterTurn columns room old i u (On m' z) a' p' s'
-              → Left columns dense room old items b once (i + 1) m' z a' p' s'
-          go (going t) e (n, (y, (x, (k, c)))) =
-              let mm : n ≡ m' = cc in
-              let zz : y ≡ z = cc in
-              let at_z : t.cursor ≡ place_of z = c ∙ ap place_of zz in
-              let r = run4_item w (place_of once) g.once_near i i (primary_of columns items i) (secondary_of columns items i) l.board t item_good (record { kept = l.ready.kept; cursor = subst (CursorIn i) (sym l.cursor) l.near }) e in
-              let one_more : i + 1 ≡ suc i = omega arith in
-              record {
-                board = t;
-                ready = subst (λ (o : Matrix). Ready columns room old t o a' p' s') mm k;
-                cursor = at_z;
-                near = rw one_more (subst (CursorIn (suc i)) at_z r.cursor);
-                same =
-                    sym (each_next w (step4 w (place_of once)) (record { index = i; item = item_of (item_at items i) }) (drop (i + 1) (queued items)) l.board t e)
-                    ∙ ap (λ (qs : List Queued). each w (step4 w (place_of once)) qs l.board) (sym (queue_drop items i (omega (arith, halves_length items))))
-                    ∙ l.same;
-              }
-          go (stopped n j) e (x, f) = let y : ◌≡◌ {A = ℕ} 0 1 = cc in absurd (omega arith)
+      one room old b l =
+          let w = setting_for columns dense room in
+          let P = primary_of columns items i in
+          let S = secondary_of columns items i in
+          let u = step4 w (place_of once) i P S l.board in
+          let t : AfterTurn columns room old i u (Ok (m', z)) a' p' s' = v room old l.board l.ready l.cursor in
+          let x = next columns dense room old items (step4 w (place_of once)) i l.board h {m = m'} (item_on columns room old i a' p' s' u m' z t) in
+          let at_z = turn_cursor columns room old i a' p' s' x.board m' z (subst (λ (y : Run). AfterTurn columns room old i y (Ok (m', z)) a' p' s') x.ran t) in
+          let item_good : GoodItem P S = both_good columns items i P S good refl refl in
+          let r = run4_item w (place_of once) g.once_near i i P S l.board x.board item_good (record { kept = l.ready.kept; cursor = subst (CursorIn i) (sym l.cursor) l.near }) x.ran in
+          let one_more : i + 1 ≡ suc i = omega arith in
+          record {
+            board = x.board;
+            ready = x.ready;
+            cursor = at_z;
+            near = rw one_more (subst (CursorIn (suc i)) at_z r.cursor);
+            same = sym x.rest ∙ l.same;
+          }
 
   -- the item that ends the step
-  pub going_stops : (number : ℕ) (a' p' s' : List ℤ) → Item (Short number) a' p' s'
+  pub going_stops : i < length items / 6 → (refusal : Refusal) (a' p' s' : List ℤ) → Item (Err refusal) a' p' s'
       → (room : Both ℕ) (old : List ℤ) (b : Board) → Ready columns room old b m₀ a₀ p₀ s₀
-      → AfterStep columns room old (last4 (setting_for columns dense room) (queued items) (begin4 (setting_for columns dense room) (λ c. c) b)) (Refused number i) a' p' s'
-  going_stops number a' p' s' v room old b k₀ = go (step4 w (place_of once) i (primary_of columns items i) (secondary_of columns items i) l.board) refl (v room old l.board l.ready l.cursor)
-    where
-      w : Setting
-      w = setting_for columns dense room
+      → AfterStep columns room old (last4 (setting_for columns dense room) (queued items) (begin4 (setting_for columns dense room) (λ c. c) b)) (Err refusal) a' p' s'
+  going_stops h refusal a' p' s' v room old b k₀ =
+      let l = g.from_start room old b k₀ in
+      let w = setting_for columns dense room in
+      let u = step4 w (place_of once) i (primary_of columns items i) (secondary_of columns items i) l.board in
+      subst (λ (y : Run). AfterStep columns room old y (Err refusal) a' p' s') l.same
+      (stops columns dense room old items (step4 w (place_of once)) i l.board h refusal a' p' s' (item_stops columns room old i a' p' s' u refusal (v room old l.board l.ready l.cursor)))
 
-      l : Left columns dense room old items b once i m q a p s
-      l = g.from_start room old b k₀
-
-      whole : (n j : ℕ) → step4 w (place_of once) i (primary_of columns items i) (secondary_of columns items i) l.board ≡ stopped n j → last4 w (queued items) (begin4 w (λ c. c) b) ≡ stopped n j
-      whole n j e =
-          sym l.same
-          ∙ ap (λ (qs : List Queued). each w (step4 w (place_of once)) qs l.board) (queue_drop items i (omega (arith, halves_length items)))
-          ∙ each_stop w (step4 w (place_of once)) (record { index = i; item = item_of (item_at items i) }) (drop (i + 1) (queued items)) l.board n j e
-
-      go : (u : Run) → step4 w (place_of once) i (primary_of columns items i) (secondary_of columns items i) l.board ≡ u → AfterTurn columns room old i u (Short number) a' p' s'
-          → AfterStep columns room old (last4 w (queued items) (begin4 w (λ c. c) b)) (Refused number i) a' p' s'
-      go (going t) e (n, (y, (x, k))) = let o : ◌≡◌ {A = ℕ} 0 1 = cc in absurd (omega arith)
-      go (stopped n j) e (x, (y, st)) =
-          let o : number ≡ n = cc in
-          subst (λ (u : Run). AfterStep columns room old u (Refused number i) a' p' s') (sym (whole n j e)) ((λ t. Refused (o t) (sym y t)), st)
-
--- all items are done
-pub going_done : {columns dense : Bool} {items : List ℤ} {m₀ : Matrix} {a₀ p₀ s₀ : List ℤ} {once : Pair} {i : ℕ} {m : Matrix} {q : Pair} {a p s : List ℤ} → Going columns dense items m₀ a₀ p₀ s₀ once i m q a p s → length items / 6 ≤ i
-    → (room : Both ℕ) (old : List ℤ) (b : Board) → Ready columns room old b m₀ a₀ p₀ s₀
-    → AfterStep columns room old (last4 (setting_for columns dense room) (queued items) (begin4 (setting_for columns dense room) (λ c. c) b)) (Done m) a p s
-going_done {columns} {dense} {items} {once = once} {i = i} {m = m} {a = a} {p = p} {s = s} g h room old b k =
-    let w = setting_for columns dense room in
-    let l = g.from_start room old b k in
-    let e =
-    sym l.same
-    ∙ ap (λ (qs : List Queued). each w (step4 w (place_of once)) qs l.board) (queue_end items i (omega (arith, halves_length items)))
-    ∙ each_end w (step4 w (place_of once)) l.board in
-    subst (λ (u : Run). AfterStep columns room old u (Done m) a p s) (sym e) (m, (refl, l.ready))
+  -- all items are done
+  pub going_done : length items / 6 ≤ i → (room : Both ℕ) (old : List ℤ) (b : Board) → Ready columns room old b m₀ a₀ p₀ s₀
+      → AfterStep columns room old (last4 (setting_for columns dense room) (queued items) (begin4 (setting_for columns dense room) (λ c. c) b)) (Ok m) a p s
+  going_done h room old b k =
+      let l = g.from_start room old b k in
+      subst (λ (y : Run). AfterStep columns room old y (Ok m) a p s) l.same
+      (done columns dense room old items (step4 (setting_for columns dense room) (place_of once)) i l.board h l.ready)
 
 -- the cursor of any item but the last
 pub near_all : {i : ℕ} {q : Place} → CursorIn i q → i < 2000 → CursorIn 1999 q

@@ -4,7 +4,7 @@
 ghost use Rattle.std.specs.Prelude.{◌≡◌, cond, ◌+◌, ◌/◌, ◌≤◌, ℤ, pos, ◌+ℤ◌, ◌<ℤ◌};
 ghost use Rattle.std.specs.Int.{w16};
 ghost use Rattle.std.proofs.Common.{SFits};
-ghost use Rattle.theory_intervals.specs.Lists.{Holds, recs};
+ghost use Rattle.list_rules.specs.Held.{held};
 ghost use Rattle.grid_track_counts.specs.Counts.{Sound, grid_start, grid_end};
 ghost use Rattle.theory_walk.specs.Axis as Axis;
 ghost use Rattle.theory_walk.specs.Search.{at};
@@ -16,9 +16,9 @@ ghost use Rattle.placing_step4_choice.specs.Cursor.{place_of, span_of, start_on,
 
 use grid_coordinates::Lines;
 use grid_track_counts::TrackCounts;
-use placing_laying::Matrix;
+use list_rules::Records;
 use placing_search::{Pair, first_free_line, first_free_pair};
-use theory_walk::Placement;
+use theory_walk::{Placement, spanned};
 
 // Where an item goes that is fixed in neither axis, and the flags of its mark.
 #[derive(Clone, Copy)]
@@ -37,19 +37,6 @@ pub fn span_of(placement: Placement) -> u16
     }
 }
 
-// The lines of a span.
-pub fn spanned(line: i16, span: u16) -> Lines
-    requires span_bound { span ≤ 10000 }
-    requires sfits { SFits w16 (line +ℤ pos span) }
-    ensures { result ≡ Axis.from line span }
-{
-    let n = span as i16;
-    Lines {
-        start: line,
-        end: line + n,
-    }
-}
-
 // The secondary line from which on an item with fixed primary lines, of which `a` is the first, is tried. Sparse never goes back: on
 // the cursor's line an item lies at the cursor or past it.
 pub fn start_line(dense: bool, cursor: Pair, counts: TrackCounts, a: i16) -> i16
@@ -58,33 +45,32 @@ pub fn start_line(dense: bool, cursor: Pair, counts: TrackCounts, a: i16) -> i16
     ensures { result ≡ start_on dense cursor counts a }
 {
     if dense {
-        return counts.implicit_start_line().0;
+        counts.implicit_start_line().0
+    } else if a < cursor.primary {
+        cursor.secondary + 1
+    } else {
+        cursor.secondary
     }
-    if a < cursor.primary {
-        return cursor.secondary + 1;
-    }
-    cursor.secondary
 }
 
-// The secondary lines of an item whose primary lines p are fixed. The search is along the tracks p, so on the primary list.
+// The secondary lines of an item whose primary lines p are fixed, by the secondary counts. The search is along the tracks p, so on the
+// primary list's records.
 pub fn settle_line(
     dense: bool,
     cursor: Pair,
-    matrix: Matrix,
+    counts: TrackCounts,
     p: Lines,
     span: u16,
-    primary: &[i16],
+    records: Records,
 ) -> Lines
-    requires holds { Holds primary.now matrix.primary_used }
-    requires sound { Sound matrix.secondary }
+    requires sound { Sound counts }
     requires start_lt_end { p.start <ℤ p.end }
     requires le_span { (1 ≤ span) × (span ≤ 10000) }
     requires cursor_in { CursorIn 1999 (place_of cursor) }
-    ensures { result ≡ Axis.from (line_on dense cursor matrix.secondary p span (recs matrix.primary_used primary.now)) span }
+    ensures { result ≡ Axis.from (line_on dense cursor counts p span (held records.entry)) span }
 {
-    let counts = matrix.secondary;
     let start = start_line(dense, cursor, counts, p.start);
-    let line = first_free_line(primary, matrix.primary_used, p, start, span);
+    let line = first_free_line(records, p, start, span);
     spanned(line, span)
 }
 
@@ -95,39 +81,35 @@ pub fn untested_line(cursor: Pair, start: i16) -> i16
     ensures { result ≡ untested_line cursor start }
 {
     if cursor.primary == start {
-        return cursor.secondary;
+        cursor.secondary
+    } else {
+        cursor.secondary + 1
     }
-    cursor.secondary + 1
 }
 
 // The place of an item that takes n primary and m secondary tracks wherever they are free. On no secondary line is there a place for
-// one that is wider than the grid, however far a search goes: it is laid untested, and marked.
-pub fn settle_pair(cursor: Pair, matrix: Matrix, n: u16, m: u16, secondary: &[i16]) -> Settled
-    requires holds { Holds secondary.now matrix.secondary_used }
-    requires sound { Sound matrix.primary }
-    requires inside { Inside (recs matrix.secondary_used secondary.now) (grid_start matrix.primary) (grid_end matrix.primary) }
+// one that is wider than the grid, however far a search goes: it is laid untested, and marked. The counts are the primary ones, the
+// records those of the secondary list.
+pub fn settle_pair(cursor: Pair, counts: TrackCounts, n: u16, m: u16, records: Records) -> Settled
+    requires sound { Sound counts }
+    requires inside { Inside (held records) (grid_start counts) (grid_end counts) }
     requires le_n { (1 ≤ n) × (n ≤ 10000) }
     requires le_m { (1 ≤ m) × (m ≤ 10000) }
     requires cursor_in { CursorIn 1999 (place_of cursor) }
-    ensures { (place_of result.place ≡ pair_on cursor matrix.primary n m (recs matrix.secondary_used secondary.now)) × (result.flags ≡ bit 4 (overwide n matrix.primary)) }
+    ensures { (place_of result.place ≡ pair_on cursor counts n m (held records.entry)) × (result.flags ≡ bit 4 (overwide n counts)) }
 {
-    let counts = matrix.primary;
     let start = counts.implicit_start_line().0;
     let end = counts.implicit_end_line().0;
-    let width = n as i16;
-    if end < start + width {
-        let line = untested_line(cursor, start);
+    if end < start + n as i16 {
         let place = Pair {
             primary: start,
-            secondary: line,
+            secondary: untested_line(cursor, start),
         };
-        return Settled { place, flags: 4 };
-    }
-    let grid = Lines { start, end };
-    let found = first_free_pair(secondary, matrix.secondary_used, grid, n, m, cursor);
-    Settled {
-        place: found,
-        flags: 0,
+        Settled { place, flags: 4 }
+    } else {
+        let grid = Lines { start, end };
+        let place = first_free_pair(records, grid, n, m, cursor);
+        Settled { place, flags: 0 }
     }
 }
 
@@ -136,9 +118,11 @@ pub fn next_cursor(dense: bool, once: Pair, p: Lines, s: Lines) -> Pair
     ensures { place_of result ≡ cond dense (place_of once) (at p.end s.start) }
 {
     if dense {
-        return once;
+        once
+    } else {
+        Pair {
+            primary: p.end,
+            secondary: s.start,
+        }
     }
-    let primary = p.end;
-    let secondary = s.start;
-    Pair { primary, secondary }
 }

@@ -1,39 +1,31 @@
 // Damaged copies of case 4's file: how many of them are refused by 12, and how many are answered otherwise.
 ghost use Rattle.std.specs.Prelude.{◌+◌, ◌<◌, ◌≤◌, length};
 
-use board_file::{FileAnswer, place_file};
-
-fn is_12(answer: FileAnswer) -> bool {
-    match answer {
-        FileAnswer::Placed(_, _, _) => false,
-        FileAnswer::Refused(number, _) => number == 12,
-    }
-}
+use board_file::place_file;
+use board_text::Output;
+use refusals::Refusal;
+use std::fmt::Write;
 
 // 1 where the bytes are refused by 12, else 0.
 fn refused(bytes: &[u8]) -> usize
     ensures { result ≤ 1 }
 {
     let mut items = [0i16; 12000];
-    let mut answers = [0i16; 20];
+    let mut lines = [0i16; 20];
     let mut rows = [0i16; 64];
     let mut columns = [0i16; 64];
-    let answer = place_file(bytes, &mut items, &mut answers, &mut rows, &mut columns);
-    if is_12(answer) {
-        return 1;
-    }
-    0
+    let answer = place_file(bytes, &mut items, &mut lines, &mut rows, &mut columns);
+    usize::from(matches!(answer, Err(Refusal::NotAFile)))
 }
 
-fn tell(name: &[u8], refused: usize, all: usize)
+fn tell(name: &str, refused: usize, all: usize)
     requires { refused ≤ all }
 {
-    io::write_all(1, name);
-    io::write_all(1, b": refused 12 ");
-    io::print_decimal(1, refused as u64);
-    io::write_all(1, b", otherwise ");
-    io::print_decimal(1, (all - refused) as u64);
-    io::write_all(1, b"\n");
+    let _ = writeln!(
+        Output,
+        "{name}: refused 12 {refused}, otherwise {}",
+        all - refused
+    );
 }
 
 // The first `from` bytes, one more, and so on up to `to`.
@@ -42,11 +34,9 @@ fn prefixes(file: &[u8], from: usize, to: usize) -> usize
     requires to_in_bounds { to ≤ length file.now }
     ensures { result + from ≤ to }
 {
-    let mut n = from;
-    let mut sum: usize = 0;
-    while n < to {
+    let mut sum = 0;
+    for n in from..to {
         sum += refused(&file[..n]);
-        n += 1;
     }
     sum
 }
@@ -57,11 +47,9 @@ fn changed_at(file: &mut [u8], at: usize) -> usize
     ensures { result ≤ 255 }
 {
     let old = file[at];
-    let mut v: u8 = 0;
-    let mut sum: usize = 0;
-    while v < 255 {
-        v += 1;
-        file[at] = std::num::wrapping_add_u8(old, v);
+    let mut sum = 0;
+    for v in 1..=255 {
+        file[at] = old.wrapping_add(v);
         sum += refused(file);
     }
     file[at] = old;
@@ -74,11 +62,9 @@ fn changed(file: &mut [u8], n: usize) -> usize
     requires n_bound { n ≤ 20 }
     ensures { result ≤ 5100 }
 {
-    let mut at: usize = 0;
-    let mut sum: usize = 0;
-    while at < n {
+    let mut sum = 0;
+    for at in 0..n {
         sum += changed_at(file, at);
-        at += 1;
     }
     sum
 }
@@ -88,13 +74,11 @@ fn both_told(file: &mut [u8]) -> usize
     requires { 20 ≤ length file.old }
     ensures { result ≤ 20 }
 {
-    let mut n: u8 = 0;
-    let mut sum: usize = 0;
-    while n < 20 {
+    let mut sum = 0;
+    for n in 0..20 {
         file[3] = 16 + 12 * n;
         file[19] = n;
         sum += refused(file);
-        n += 1;
     }
     sum
 }
@@ -124,15 +108,15 @@ fn file() -> [u8; 68] {
 
 fn lengths() {
     let f = file();
-    tell(b"undamaged", prefixes(&f, 56, 57), 1);
-    tell(b"truncated at every byte", prefixes(&f, 0, 56), 56);
-    tell(b"longer by 1 to 11 bytes", prefixes(&f, 57, 68), 11);
+    tell("undamaged", prefixes(&f, 56, 57), 1);
+    tell("truncated at every byte", prefixes(&f, 0, 56), 56);
+    tell("longer by 1 to 11 bytes", prefixes(&f, 57, 68), 11);
 }
 
 fn heads() {
     let mut f = file();
     tell(
-        b"every byte of the head changed",
+        "every byte of the head changed",
         changed(&mut f[0..56], 20),
         5100,
     );
@@ -140,7 +124,7 @@ fn heads() {
 
 fn lies() {
     let mut f = file();
-    tell(b"length and count told alike", both_told(&mut f[0..56]), 20);
+    tell("length and count told alike", both_told(&mut f[0..56]), 20);
 }
 
 pub fn all() {

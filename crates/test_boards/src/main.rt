@@ -5,56 +5,58 @@ mod damaged;
 mod door;
 
 use board_file::place_file;
+use board_text::{Numbers, Output, Told};
+use std::fmt::Write;
 
 // The answer, and of each list the first records.
-fn board(name: &[u8], bytes: &[u8]) {
+fn board(name: &str, bytes: &[u8]) {
     let mut items = [0i16; 12000];
-    let mut answers = [0i16; 20];
+    let mut lines = [0i16; 20];
     let mut rows = [0i16; 64];
     let mut columns = [0i16; 64];
-    let answer = place_file(bytes, &mut items, &mut answers, &mut rows, &mut columns);
-    io::write_all(1, b"case ");
-    io::write_all(1, name);
-    io::write_all(1, b"\n");
-    board_text::tell_answer(answer, &answers);
-    io::write_all(1, b"row list");
-    board_text::tell_all(&rows[0..16]);
-    io::write_all(1, b"\ncolumn list");
-    board_text::tell_all(&columns[0..16]);
-    io::write_all(1, b"\n");
+    let answer = place_file(bytes, &mut items, &mut lines, &mut rows, &mut columns);
+    let told = Told {
+        answer,
+        lines: &lines,
+    };
+    let (first_rows, first_columns) = (Numbers(&rows[..16]), Numbers(&columns[..16]));
+    let _ = writeln!(
+        Output,
+        "case {name}\n{told}row list{first_rows}\ncolumn list{first_columns}"
+    );
 }
 
 fn boards() {
     board(
-        b"1",
+        "1",
         b"\x00\x00\x00\x10\x01\x00\x00\x01\x00\x02\x00\x03\x00\x00\x00\x00\x00\x00\x00\x00",
     );
     board(
-        b"4",
+        "4",
         b"\x00\x00\x00\x34\x01\x00\x00\x00\x00\x02\x00\x00\x00\x00\x00\x02\x00\x00\x00\x03\x00\x01\x00\x01\x00\x00\x00\x01\x00\x01\x00\x00\x00\x01\x00\x01\x00\x00\x00\x01\x00\x01\x00\x00\x00\x01\x00\x01\x00\x00\x00\x01\x00\x01\x00\x00",
     );
     board(
-        b"5",
+        "5",
         b"\x00\x00\x00\x34\x01\x00\x00\x00\x00\x03\x00\x00\x00\x00\x00\x01\x00\x00\x00\x03\x00\x01\x00\x02\x00\x00\x00\x01\x00\x01\x00\x00\x00\x01\x00\x02\x00\x00\x00\x01\x00\x01\x00\x00\x00\x01\x00\x01\x00\x00\x00\x01\x00\x01\x00\x00",
     );
     board(
-        b"5, flow 2",
+        "5, flow 2",
         b"\x00\x00\x00\x34\x01\x02\x00\x00\x00\x03\x00\x00\x00\x00\x00\x01\x00\x00\x00\x03\x00\x01\x00\x02\x00\x00\x00\x01\x00\x01\x00\x00\x00\x01\x00\x02\x00\x00\x00\x01\x00\x01\x00\x00\x00\x01\x00\x01\x00\x00\x00\x01\x00\x01\x00\x00",
     );
     board(
-        b"6, a file and short lists",
+        "6, a file and short lists",
         b"\x00\x00\x00\x28\x01\x00\x00\x00\x00\x01\x00\x00\x00\x00\x00\x00\x00\x00\x00\x02\x00\x00\x00\x00\x00\x01\x00\x00\x00\x00\x27\x10\x00\x00\x00\x00\x00\x01\x00\x01\x00\x01\x00\x00",
     );
     board(
-        b"7",
+        "7",
         b"\x00\x00\x00\x28\x01\x00\x00\x00\x00\x02\x00\x00\x00\x00\x00\x01\x00\x00\x00\x02\x00\x00\x00\x00\x00\x01\x00\x00\x00\x00\x00\x01\x00\x01\x00\x03\x00\x00\x00\x01\x00\x01\x00\x00",
     );
     board(
-        b"8",
+        "8",
         b"\x00\x00\x00\x40\x01\x00\x00\x00\x00\x04\x00\x00\x00\x00\x00\x02\x00\x00\x00\x04\x00\x00\x00\x00\x00\x01\x00\x00\x00\x00\x00\x01\x00\x01\x00\x01\x00\x00\x00\x00\x00\x00\x00\x02\x00\x01\x00\x01\x00\x00\x00\x00\x00\x01\x00\x02\x00\x01\x00\x01\x00\x00\x00\x00\x00\x00\x00\x01",
     );
     board(
-        b"9",
+        "9",
         b"\x00\x00\x00\x28\x01\x02\x00\x00\x00\x01\x00\x00\x00\x00\x00\x00\x00\x00\x00\x02\x00\x00\xff\xfe\xff\xff\x00\x01\x00\x01\x00\x00\x00\x01\x00\x01\x00\x00\x00\x01\x00\x01\x00\x00",
     );
 }
@@ -66,17 +68,16 @@ fn many(file: &mut [u8; 24032]) {
     file[4] = 1;
     file[18] = 7;
     file[19] = 209;
-    board(b"2001 items", file);
+    board("2001 items", file);
     file[5] = 9;
-    board(b"2001 items, flow 9", file);
+    board("2001 items, flow 9", file);
     file[4] = 2;
-    board(b"2001 items, flow 9, version 2", file);
+    board("2001 items, flow 9, version 2", file);
 }
 
 fn main() {
     boards();
-    let mut file = [0u8; 24032];
-    many(&mut file);
+    many(&mut [0u8; 24032]);
     door::case_6();
     damaged::all();
 }

@@ -4,13 +4,14 @@
 mod data;
 mod replaying;
 
-use crate::replaying::replay;
+use crate::replaying::{Buffers, replay};
 
 fn main() {
-    let mut data = [0u8; 65536];
-    let mut items = [0i16; 12000];
-    let mut answers = [0i16; 10000];
-    let mut rows = [0i16; 131072];
-    let mut columns = [0i16; 131072];
-    replay(&mut data, &mut items, &mut answers, &mut rows, &mut columns);
+    let mut buffers = Buffers {
+        items: [0; 12000],
+        lines: [0; 10000],
+        rows: [0; 131072],
+        columns: [0; 131072],
+    };
+    replay(&mut [0u8; 65536], &mut buffers);
 }

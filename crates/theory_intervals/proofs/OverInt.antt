@@ -87,16 +87,16 @@ is_painted_lem = Pa.is_painted_lem lt_z int_linear ok refl span span_is
 
 -- ---- flat lists
 
-zero_is : (z : ℤ) → is_zero z ≡ true → z ≡ pos 0
-zero_is (pos n) h = ap pos (eqb-true n 0 h)
-zero_is (negsuc n) h = no_both h refl
+pub is_zero_is : (z : ℤ) → is_zero z ≡ true → z ≡ pos 0
+is_zero_is (pos n) h = ap pos (eqb-true n 0 h)
+is_zero_is (negsuc n) h = no_both h refl
 
-state_is : (z : ℤ) → non_neg z ≡ true → pos (nat_abs z) ≡ z
+pub state_is : (z : ℤ) → non_neg z ≡ true → pos (nat_abs z) ≡ z
 state_is (pos n) h = refl
 state_is (negsuc n) h = no_both h refl
 
 pub digit_laws : DigitLaws ℤ digits
-digit_laws = record { o_is = refl; is_o_lem = zero_is; st_o = λ s. refl; of_st = λ s. refl; st_is = λ s. refl; st_of_lem = state_is }
+digit_laws = record { o_is = refl; is_o_lem = is_zero_is; st_o = λ s. refl; of_st = λ s. refl; st_is = λ s. refl; st_of_lem = state_is }
 
 pub flat_canonical : (zs ws : List ℤ) → is_flat zs ≡ true → is_flat ws ≡ true → length zs ≡ length ws → keeps (decode zs) ≡ true → keeps (decode ws) ≡ true
     → zs ≡ ws ↔ ((t p : ℤ) → cell_of (decode zs) t p ≡ cell_of (decode ws) t p)

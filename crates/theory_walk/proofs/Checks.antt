@@ -1,9 +1,9 @@
 -- What a request that passes the checks 1 to 6 satisfies.
+use Rattle.std.specs.Prelude.{Some, None, Option}
 use mathlib.Core.Path.{◌≡◌, refl}
 use mathlib.Core.Bool.{Bool, true, false, not, cond, ◌&&◌, ◌||◌}
 use mathlib.Core.List.{List, [], ◌∷◌, map}
 use mathlib.Core.Logic.{◌⊎◌, inl, inr}
-use mathlib.Core.Option.{Option, none, some}
 use Prim.Native.Nat.{ℕ, zero, suc, ◌*◌, ◌/◌, ◌%◌, ◌≤◌}
 use native.Mathlib.Omega.{arith}
 use borrow.Author.Tests.{ltb-false, eqb-true}
@@ -35,20 +35,20 @@ pub record Passed (r : Request) : Type 0 where
   pub row_length : length_good r.lists.rows ≡ true
   pub items : Every (λ (x : Both Half). good_item x ≡ true) (halves r.items)
 
-pass : (b : Bool) (x : Refusal) (o : Option Refusal) → cond b (some x) o ≡ none → (b ≡ false) × (o ≡ none)
+pass : (b : Bool) (x : Refusal) (o : Option Refusal) → cond b (Some x) o ≡ None → (b ≡ false) × (o ≡ None)
 pass true x o e = absurd (let z : ◌≡◌ {A = ℕ} 0 1 = cc in let y : ⊥ = omega arith in y)
 pass false x o e = (refl, e)
 
-all_good : (i : ℕ) (xs : List (Both Half)) → or_else (bad_from i xs) (λ j. no 6 j) none ≡ none → Every (λ (x : Both Half). good_item x ≡ true) xs
+all_good : (i : ℕ) (xs : List (Both Half)) → or_else (bad_from i xs) (λ j. no 6 j) None ≡ None → Every (λ (x : Both Half). good_item x ≡ true) xs
 unfolding bad_from
 all_good i [] e = nil
 all_good i (x ∷ xs) e = go (λ h. all_good (suc i) xs h) (good_item x) refl e
   where
-    go : (or_else (bad_from (suc i) xs) (λ j. no 6 j) none ≡ none → Every (λ (y : Both Half). good_item y ≡ true) xs) → (b : Bool) → good_item x ≡ b → or_else (cond b (bad_from (suc i) xs) (some i)) (λ j. no 6 j) none ≡ none → Every (λ (y : Both Half). good_item y ≡ true) (x ∷ xs)
+    go : (or_else (bad_from (suc i) xs) (λ j. no 6 j) None ≡ None → Every (λ (y : Both Half). good_item y ≡ true) xs) → (b : Bool) → good_item x ≡ b → or_else (cond b (bad_from (suc i) xs) (Some i)) (λ j. no 6 j) None ≡ None → Every (λ (y : Both Half). good_item y ≡ true) (x ∷ xs)
     go rec true f h = more f (rec h)
     go rec false f h = absurd (let z : ◌≡◌ {A = ℕ} 0 1 = cc in let y : ⊥ = omega arith in y)
 
-pub checked_none : (r : Request) → checked r ≡ none → Passed r
+pub checked_none : (r : Request) → checked r ≡ None → Passed r
 unfolding checked
 checked_none r e =
     let n = item_count r in
@@ -57,7 +57,7 @@ checked_none r e =
     let g₃ = counts_good r.counts.columns && counts_good r.counts.rows in
     let a₄ = ltb r.answers (5 * n) in
     let g₅ = length_good r.lists.columns && length_good r.lists.rows in
-    let o₆ = or_else (bad_from 0 (halves r.items)) (λ i. no 6 i) none in
+    let o₆ = or_else (bad_from 0 (halves r.items)) (λ i. no 6 i) None in
     let o₅ = cond (not g₅) (no 5 0) o₆ in
     let o₄ = cond a₄ (no 4 0) o₅ in
     let o₃ = cond (not g₃) (no 3 0) o₄ in
@@ -164,20 +164,20 @@ halves_length (k ∷ a ∷ b ∷ j ∷ c ∷ d ∷ zs) = let h = halves_length z
 
 -- ---- a refusal by the checks
 
-low : (b : Bool) (y x : Refusal) (o : Option Refusal) → y.number ≤ 6 → (o ≡ some x → x.number ≤ 6) → cond b (some y) o ≡ some x → x.number ≤ 6
+low : (b : Bool) (y x : Refusal) (o : Option Refusal) → y.number ≤ 6 → (o ≡ Some x → x.number ≤ 6) → cond b (Some y) o ≡ Some x → x.number ≤ 6
 low true y x o h f e = let z : y ≡ x = cc in rw (← z) h
 low false y x o h f e = f e
 
-low_last : (o : Option ℕ) (x : Refusal) → or_else o (λ i. no 6 i) none ≡ some x → x.number ≤ 6
-low_last none x e = absurd (let z : ◌≡◌ {A = ℕ} 0 1 = cc in let y : ⊥ = omega arith in y)
-low_last (some i) x e = let z : record { number = 6; index = i } ≡ x = cc in rw (← z) (omega arith)
+low_last : (o : Option ℕ) (x : Refusal) → or_else o (λ i. no 6 i) None ≡ Some x → x.number ≤ 6
+low_last None x e = absurd (let z : ◌≡◌ {A = ℕ} 0 1 = cc in let y : ⊥ = omega arith in y)
+low_last (Some i) x e = let z : record { number = 6; index = i } ≡ x = cc in rw (← z) (omega arith)
 
 -- its number is one of 1 to 6
-pub checked_low : (r : Request) (x : Refusal) → checked r ≡ some x → x.number ≤ 6
+pub checked_low : (r : Request) (x : Refusal) → checked r ≡ Some x → x.number ≤ 6
 unfolding checked
 checked_low r x e =
     let n = item_count r in
-    let o₆ = or_else (bad_from 0 (halves r.items)) (λ i. no 6 i) none in
+    let o₆ = or_else (bad_from 0 (halves r.items)) (λ i. no 6 i) None in
     let o₅ = cond (not (length_good r.lists.columns && length_good r.lists.rows)) (no 5 0) o₆ in
     let o₄ = cond (ltb r.answers (5 * n)) (no 4 0) o₅ in
     let o₃ = cond (not (counts_good r.counts.columns && counts_good r.counts.rows)) (no 3 0) o₄ in
@@ -194,11 +194,11 @@ pub data FirstBad : ℕ → List (Both Half) → ℕ → Type 0 where
   bad_here : {k : ℕ} {x : Both Half} {xs : List (Both Half)} → good_item x ≡ false → FirstBad k (x ∷ xs) k
   bad_later : {k i : ℕ} {x : Both Half} {xs : List (Both Half)} → good_item x ≡ true → FirstBad (suc k) xs i → FirstBad k (x ∷ xs) i
 
-pub bad_first : (k : ℕ) (xs : List (Both Half)) (i : ℕ) → bad_from k xs ≡ some i → FirstBad k xs i
+pub bad_first : (k : ℕ) (xs : List (Both Half)) (i : ℕ) → bad_from k xs ≡ Some i → FirstBad k xs i
 unfolding bad_from
 bad_first k [] i e = absurd (let z : ◌≡◌ {A = ℕ} 0 1 = cc in let y : ⊥ = omega arith in y)
 bad_first k (x ∷ xs) i e = go (good_item x) refl e (λ h. bad_first (suc k) xs i h)
   where
-    go : (b : Bool) → good_item x ≡ b → cond b (bad_from (suc k) xs) (some k) ≡ some i → (bad_from (suc k) xs ≡ some i → FirstBad (suc k) xs i) → FirstBad k (x ∷ xs) i
+    go : (b : Bool) → good_item x ≡ b → cond b (bad_from (suc k) xs) (Some k) ≡ Some i → (bad_from (suc k) xs ≡ Some i → FirstBad (suc k) xs i) → FirstBad k (x ∷ xs) i
     go true f h rest = bad_later f (rest h)
     go false f h rest = let z : k ≡ i = cc in rw (← z) (bad_here f)

@@ -1,10 +1,10 @@
 -- THE PROMISES about a placement run, each under the words of document 01 that it answers. r is a request; in the last parts it passes the checks 1 to 6,
 -- and b is the board that its run ends with.
+use Rattle.std.specs.Prelude.{Some, None}
 use mathlib.Core.Path.{◌≡◌, refl, sym, ap, ◌∙◌}
 use mathlib.Core.Logic.{◌↔◌, ◌⊎◌, inl, inr}
 use mathlib.Core.Bool.{Bool, true, false, cond}
 use mathlib.Core.List.{List, ◌++◌}
-use mathlib.Core.Option.{none, some}
 use Prim.Native.Nat.{ℕ, ◌+◌, ◌*◌, ◌<◌}
 use native.Mathlib.Omega.{arith}
 use borrow.Author.Tests.{eqb-true, eqb-false, ltb-false}
@@ -51,15 +51,15 @@ queued_item r q m = queue_item (up_to (length (items_of r)) 0) (items_of r) q m
 
 -- ---- "For every input, one result and one set of lent contents": a refusal by the checks, a refusal for room, or the answers
 
-pub checks_refuse : (r : Request) (n i : ℕ) → checked r ≡ some (record { number = n; index = i }) → outcome r ≡ refused n i
+pub checks_refuse : (r : Request) (n i : ℕ) → checked r ≡ Some (record { number = n; index = i }) → outcome r ≡ refused n i
 unfolding outcome
 checks_refuse r n i e = rw e
 
-pub room_refuses : (r : Request) (n i : ℕ) → checked r ≡ none → run_of r ≡ stopped n i → outcome r ≡ refused n i
+pub room_refuses : (r : Request) (n i : ℕ) → checked r ≡ None → run_of r ≡ stopped n i → outcome r ≡ refused n i
 unfolding outcome told
 room_refuses r n i e f = rw (e, f)
 
-pub is_answered : (r : Request) (b : Board) → checked r ≡ none → run_of r ≡ going b
+pub is_answered : (r : Request) (b : Board) → checked r ≡ None → run_of r ≡ going b
     → outcome r ≡ answered (answers_of (up_to (item_count r) 0) b.tiles) b.counts (flat r.lists.rows (records_on row b.tiles)) (flat r.lists.columns (records_on col b.tiles))
 unfolding outcome told
 is_answered r b e f = rw (e, f)
@@ -71,7 +71,7 @@ pub record Leaves (r : Request) (o : Outcome) (answers rows columns : List ℤ �
   pub in_columns : (old : List ℤ) → columns_left r old o ≡ columns old
 
 -- 1 to 6: "unchanged"
-pub refusal_unchanged : (r : Request) (x : Refusal) → checked r ≡ some x → Leaves r (outcome r) (λ old. old) (λ old. old) (λ old. old)
+pub refusal_unchanged : (r : Request) (x : Refusal) → checked r ≡ Some x → Leaves r (outcome r) (λ old. old) (λ old. old) (λ old. old)
 unfolding answers_left rows_left columns_left
 refusal_unchanged r x e =
     rw (checks_refuse r x.number x.index e)
@@ -86,7 +86,7 @@ refusal_unchanged r x e =
 
 -- ---- a request that passes the checks: r keeps the rules of each step (specs/Rules), and nothing else does
 
-module _ (r : Request) (passed : checked r ≡ none) where
+module _ (r : Request) (passed : checked r ≡ None) where
   start_kept : Kept (start_of r)
   start_kept = record { tiles = nil; counts = (checked_none r passed).counts; covered = nil; clear = Clear.none }
 
@@ -129,7 +129,7 @@ module _ (r : Request) (passed : checked r ≡ none) where
 
 -- ---- a request that is answered
 
-module _ (r : Request) (passed : checked r ≡ none) (b : Board) (run : run_of r ≡ going b) where
+module _ (r : Request) (passed : checked r ≡ None) (b : Board) (run : run_of r ≡ going b) where
   e : walk (setting_of r) (growth_of r) (queue_of r) (start_of r) ≡ going b
   e = sym (run_is r) ∙ run
 
@@ -268,7 +268,7 @@ module _ (r : Request) (passed : checked r ≡ none) (b : Board) (run : run_of r
 
 -- ---- "With 2000 items no searched line passes 22000": the cursor of step 4 after any of the items
 
-module _ (r : Request) (passed : checked r ≡ none) where
+module _ (r : Request) (passed : checked r ≡ None) where
   abbrev w : Setting
   w = setting_of r
 

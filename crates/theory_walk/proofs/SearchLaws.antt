@@ -1,8 +1,8 @@
 -- What the searches find: the least line, the earliest pair, at which the test passes; and how code may skip.
+use Rattle.std.specs.Prelude.{Some, None, Option}
 use mathlib.Core.Path.{◌≡◌, refl, ap, ◌∙◌, subst}
 use mathlib.Core.Bool.{Bool, true, false, cond}
 use mathlib.Core.Logic.{◌⊎◌, inl, inr}
-use mathlib.Core.Option.{Option, none, some}
 use Prim.Native.Nat.{ℕ, zero, suc}
 use lib.IntN.{ℤ, pos, ◌+ℤ◌}
 use lib.Signed.{lt_z, ◌≤ℤ◌, ◌<ℤ◌}
@@ -81,25 +81,25 @@ module _ (ok : ℤ → Bool) (beyond : (y : ℤ) → pos 10000 ≤ℤ y → ok y
 -- ---- pairs
 
 pub data Among (ok : ℤ → Bool) (n : ℕ) (p : ℤ) : Option ℤ → Type 0 where
-  missed : ((y : ℤ) → p ≤ℤ y → y <ℤ (p +ℤ pos n) → ok y ≡ false) → Among ok n p none
-  hit : {q : ℤ} → q <ℤ (p +ℤ pos n) → FirstLine ok p q → Among ok n p (some q)
+  missed : ((y : ℤ) → p ≤ℤ y → y <ℤ (p +ℤ pos n) → ok y ≡ false) → Among ok n p None
+  hit : {q : ℤ} → q <ℤ (p +ℤ pos n) → FirstLine ok p q → Among ok n p (Some q)
 
 pub among_is : (ok : ℤ → Bool) (n : ℕ) (p : ℤ) → Among ok n p (among n ok p)
 unfolding among
 among_is ok zero p = missed (λ y a b. absurd (let e : ⊥ = omega signed in e))
 among_is ok (suc n) p =
-    by_test (ok p) (λ t. ok p ≡ t → Among ok (suc n) p (cond t (some p) (among n ok (p +ℤ pos 1))))
+    by_test (ok p) (λ t. ok p ≡ t → Among ok (suc n) p (cond t (Some p) (among n ok (p +ℤ pos 1))))
     (λ _ e. hit {q = p} (omega signed) (first_here e))
     (λ _ e. go e (among n ok (p +ℤ pos 1)) (among_is ok n (p +ℤ pos 1)))
     refl
   where
     go : ok p ≡ false → (o : Option ℤ) → Among ok n (p +ℤ pos 1) o → Among ok (suc n) p o
-    go e none (missed f) = missed (λ y a b. each y a b (side (p +ℤ pos 1) y))
+    go e None (missed f) = missed (λ y a b. each y a b (side (p +ℤ pos 1) y))
       where
         each : (y : ℤ) → p ≤ℤ y → y <ℤ (p +ℤ pos (suc n)) → ((p +ℤ pos 1) ≤ℤ y) ⊎ (y <ℤ (p +ℤ pos 1)) → ok y ≡ false
         each y a b (inl h) = f y h (omega (signed, sum p (pos 1)))
         each y a b (inr h) = only ok p e y a h
-    go e (some q) (hit h f) = hit {q = q} (omega (signed, sum p (pos 1))) (first_skip (omega signed) (only ok p e) f)
+    go e (Some q) (hit h f) = hit {q = q} (omega (signed, sum p (pos 1))) (first_skip (omega signed) (only ok p e) f)
 
 module _ (n : ℕ) (e g : ℤ) (ok : ℤ → ℤ → Bool) where
   abbrev T : ℤ → ℤ → ℤ → ℤ → Type 0
@@ -158,8 +158,8 @@ module _ (n : ℕ) (e g : ℤ) (ok : ℤ → ℤ → Bool) where
         m = places_to e n p
 
         go : (o : Option ℤ) → Among (λ q. ok q s) m p o → F p s (or_else o (λ q. at q s) (pair_from k (places_to e n) g ok g (s +ℤ pos 1)))
-        go none (missed h) = pair_next p s (pair_from k (places_to e n) g ok g (s +ℤ pos 1)) (λ y a b. h y a (omega (signed, sum p (pos n), sum e (pos 1), sum p (pos m)))) f
-        go (some q) (hit h i) = pair_hit p s q i (omega (signed, i.since, sum p (pos n), sum e (pos 1), sum p (pos m)))
+        go None (missed h) = pair_next p s (pair_from k (places_to e n) g ok g (s +ℤ pos 1)) (λ y a b. h y a (omega (signed, sum p (pos n), sum e (pos 1), sum p (pos m)))) f
+        go (Some q) (hit h i) = pair_hit p s q i (omega (signed, i.since, sum p (pos n), sum e (pos 1), sum p (pos m)))
 
     from_g : (k : ℕ) (s : ℤ) → pos 10000 ≤ℤ (s +ℤ pos k) → F g s (pair_from k (places_to e n) g ok g s)
     unfolding pair_from

@@ -1,6 +1,5 @@
 -- A request, the checks 1 to 6, and what a placement run gives back.
-use Rattle.std.specs.Prelude.{Bool, not, cond, ◌&&◌, ◌||◌, List, [], ◌∷◌, ◌++◌, map, ℕ, zero, suc, ◌*◌, ◌/◌, ◌%◌, eqb, leb, ltb, ℤ, pos, negsuc, nat_abs, length, get_or, replicate, drop}
-use Rattle.std.proofs.Math.Option.{Option, none, some}
+use Rattle.std.specs.Prelude.{Bool, not, cond, ◌&&◌, ◌||◌, List, [], ◌∷◌, ◌++◌, map, ℕ, zero, suc, ◌*◌, ◌/◌, ◌%◌, eqb, leb, ltb, ℤ, pos, negsuc, nat_abs, length, get_or, replicate, drop, Option, Some, None}
 use Rattle.std.specs.Int.Signed.{lt_z, le_z}
 use Rattle.theory_signed.specs.Parts.{eq_z}
 use Rattle.theory_intervals.specs.OverInt.{flat}
@@ -58,8 +57,8 @@ good_item x = good_half x.columns && good_half x.rows
 
 -- the first index, from i on, of an item that breaks its rules
 unfoldable pub bad_from : ℕ → List (Both Half) → Option ℕ
-bad_from i [] = none
-bad_from i (x ∷ xs) = cond (good_item x) (bad_from (suc i) xs) (some i)
+bad_from i [] = None
+bad_from i (x ∷ xs) = cond (good_item x) (bad_from (suc i) xs) (Some i)
 
 -- what an item's three numbers say of one axis
 unfoldable pub placing_of : Half → Placement
@@ -83,7 +82,7 @@ pub record Refusal : Type 0 where
   pub index : ℕ
 
 abbrev pub no : ℕ → ℕ → Option Refusal
-no n i = some (record { number = n; index = i })
+no n i = Some (record { number = n; index = i })
 
 -- 1 "flow not 0..3"; 2 "item numbers not a multiple of 6, or over 2000 items"; 3 "counts outside the limits"; 4 "answer buffer below 5 numbers an item";
 -- 5 "a list's length is wrong"; 6 "an item breaks its rules; the first such index"
@@ -94,7 +93,7 @@ checked r =
     (cond (not (counts_good r.counts.columns && counts_good r.counts.rows)) (no 3 0)
     (cond (ltb r.answers (answer_numbers * item_count r)) (no 4 0)
     (cond (not (length_good r.lists.columns && length_good r.lists.rows)) (no 5 0)
-    (or_else (bad_from 0 (halves r.items)) (λ i. no 6 i) none)))))
+    (or_else (bad_from 0 (halves r.items)) (λ i. no 6 i) None)))))
 
 -- ---- today's values of what the walk is given
 

@@ -1,6 +1,5 @@
 -- Searches: the first line, or the first pair of lines, at which a test passes, by counting.
-use Rattle.std.specs.Prelude.{Bool, cond, ℕ, zero, suc, ℤ, pos, ◌+ℤ◌}
-use Rattle.std.proofs.Math.Option.{Option, none, some}
+use Rattle.std.specs.Prelude.{Bool, cond, ℕ, zero, suc, ℤ, pos, ◌+ℤ◌, Option, Some, None}
 use Rattle.theory_signed.specs.Parts.{gap}
 
 -- the first line from z on at which the test passes; after n lines the search ends
@@ -14,8 +13,8 @@ first_line ok z = line_from (gap z (pos 10000)) ok z
 
 -- the first of n lines from p on at which the test passes
 unfoldable pub among : ℕ → (ℤ → Bool) → ℤ → Option ℤ
-among zero ok p = none
-among (suc n) ok p = let later = among n ok (p +ℤ pos 1) in cond (ok p) (some p) later
+among zero ok p = None
+among (suc n) ok p = let later = among n ok (p +ℤ pos 1) in cond (ok p) (Some p) later
 
 -- a primary and a secondary line
 pub record Place : Type 0 where
@@ -26,8 +25,8 @@ abbrev pub at : ℤ → ℤ → Place
 at p s = record { primary = p; secondary = s }
 
 abbrev pub or_else : {A B : Type 0} → Option A → (A → B) → B → B
-or_else none f b = b
-or_else (some a) f b = f a
+or_else None f b = b
+or_else (Some a) f b = f a
 
 -- places p: how many primary lines are tried from p on. "then each next secondary line from the current grid start" g; after k secondary lines the search ends
 unfoldable pub pair_from : ℕ → (ℤ → ℕ) → ℤ → (ℤ → ℤ → Bool) → ℤ → ℤ → Place

@@ -1,6 +1,8 @@
 -- `place` meets its contract: a refusal by 1 to 6 leaves everything as it was, and a request that passes is placed.
-use mathlib.Core.Path.{sym, ap, ◌∙◌}
+use Rattle.std.proofs.Common.{rules, Err}
+use mathlib.Core.Path.{◌≡◌, sym, ap, ◌∙◌}
 use lib.ListN.{length}
+use Rattle.refusals.specs.declared.Refusal.{Refusal}
 use Rattle.theory_walk.specs.Request.{Request, checked}
 use Rattle.theory_walk.proofs.Promises.{checks_refuse, refusal_unchanged}
 use Rattle.placing_request.specs.Items.{request_of}
@@ -13,24 +15,28 @@ use Rattle.hoarbale_placing.proofs.place.Goals as goal
 abbrev req : Start → Request
 req s = request_of s.args.flow s.args.columns s.args.rows s.args.items.now (length s.args.answers.now) (length s.args.column_list.now) (length s.args.row_list.now)
 
-pub place_checked-requires : goal.place_checked-requires
-place_checked-requires c =
-    let e = c.before.before.before in
-    let k = e.before in
-    check_passed (checked (req k.before)) (sym k.check_request-check.ensures ∙ e.in-Passed.is)
-
-pub returns-in-Refused : goal.returns-in-Refused
-returns-in-Refused c =
-    let k = c.before in
-    let s = k.before in
-    let x = check_refused (checked (req s)) _ _ (sym k.check_request-check.ensures ∙ c.in-Refused.is) in
-    let l = refusal_unchanged (req s) _ x in
+pub returns-in_err-flow : goal.returns-in_err-flow
+returns-in_err-flow c =
+    let q = req (goal.at.returns-in_err-flow c).Start in
+    let r = c.in_err-flow.field-0.0 in
+    let e : c.from_residual.result ≡ Err r = search rules in
+    let x = check_refused q r (sym c.check_request.ensures ∙ c.in_err-flow.was) in
+    let l = refusal_unchanged q _ x.is in
     record {
-      value = sym (ap placing_of (checks_refuse (req s) _ _ x));
-      answers_after = sym (l.in_answers s.args.answers.now);
-      row_list_after = sym (l.in_rows s.args.row_list.now);
-      column_list_after = sym (l.in_columns s.args.column_list.now);
+      value = e ∙ ap (λ (y : Refusal). Err y) x.refusal ∙ sym (ap placing_of (checks_refuse q _ _ x.is));
+      answers_after = sym (l.in_answers c.args.answers.now);
+      row_list_after = sym (l.in_rows c.args.row_list.now);
+      column_list_after = sym (l.in_columns c.args.column_list.now);
     }
 
-pub returns-in-Passed : goal.returns-in-Passed
-returns-in-Passed c = c.place_checked.ensures
+pub place_checked-requires : goal.place_checked-requires
+place_checked-requires c =
+    let q = req (goal.at.place_checked-requires c).Start in
+    let p = check_passed c.args.flow (checked q) c.in_ok-flow.flow (sym c.check_request.ensures ∙ c.in_ok-flow.was) in
+    rw p.1 p.0
+
+pub returns : goal.returns
+returns c =
+    let q = req (goal.at.returns c).Start in
+    let p = check_passed c.args.flow (checked q) c.in_ok-flow.flow (sym c.check_request.ensures ∙ c.in_ok-flow.was) in
+    rw (p.1) at c.place_checked.ensures

@@ -1,9 +1,6 @@
-use Prim.Native.Nat.{◌-◌, ◌≤◌}
+use Prim.Native.Nat.{◌≤◌}
 use Rattle.list_jumps.proofs.Among.{Best}
 use Rattle.list_jumps.proofs.collision_among.Given as goal
 
 abbrev pub invariant-loop-k : goal.invariant-loop-k
-invariant-loop-k l = (l.first ≤ l.k) × ((l.k ≤ l.past) × Best l.list l.start l.end l.first l.k l.best)
-
-abbrev pub decreases-loop-k : goal.decreases-loop-k
-decreases-loop-k l = l.past - l.k
+invariant-loop-k l = (l.k ≤ l.past) × Best l.list l.start l.end l.first l.k l.best

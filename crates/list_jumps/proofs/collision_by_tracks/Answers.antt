@@ -1,4 +1,5 @@
 -- `jumps::collision_by_tracks`: the jump over the tracks that were looked at, from behind. Assumes nothing.
+use Rattle.std.specs.Prelude.{Option, ℤ}
 use mathlib.Core.Path.{ap, ◌∙◌}
 use mathlib.Core.List.{List}
 use native.Mathlib.Omega.{arith}
@@ -9,8 +10,8 @@ use mir.Facts.{to_z-of_z}
 use Rattle.theory_intervals.specs.Lists.{recs}
 use Rattle.list_jumps.specs.Calls.{larger, collision_jump}
 use Rattle.list_rules.specs.Inner.{Front, Crosses}
-use Rattle.list_jumps.specs.declared.Extent.{Extent}
 use Rattle.list_rules.proofs.ByIndex.{holds_front}
+use Rattle.list_jumps.proofs.Maximum.{larger_max}
 use Rattle.list_jumps.proofs.LastOverlap.{part_ascends}
 use Rattle.list_jumps.proofs.Crossed.{in_order, SoFar, start_far, next_before, next_front, next_part, next_at, next_less, next_far, all_far}
 use Rattle.list_jumps.proofs.collision_by_tracks.Goals.{In-loop-k, Start}
@@ -46,27 +47,27 @@ last_track-part-requires c =
       by_index = next_before (f c) (v c) (x c).begins h;
     }
 
-pub collision_extent-extent-requires : goal.collision_extent-extent-requires
-collision_extent-extent-requires c =
+pub collision_extent-requires : goal.collision_extent-requires
+collision_extent-requires c =
     let q = c.before in
     part_ascends (f q) (next_part (f q) (v q) (x q).begins q.loop-k-test.true c.last_track-part.ensures)
 
 pub overflow_sub-k : goal.overflow_sub-k
 overflow_sub-k c =
-    let q = c.before.before.before in
+    let q = (goal.at.overflow_sub-k c).In-loop-k in
     omega (arith, next_at (f q) (v q) (x q).begins q.loop-k-test.true c.last_track-part.ensures)
 
 pub loop-k-smaller : goal.loop-k-smaller
 loop-k-smaller c =
-    let q = c.before.before.before in
+    let q = (goal.at.loop-k-smaller c).In-loop-k in
     let w = c.last_track-part.ensures in
     omega (arith, next_at (f q) (v q) (x q).begins q.loop-k-test.true w, next_less (f q) (v q) (x q).begins q.loop-k-test.true w)
 
 pub loop-k-preserved : goal.loop-k-preserved
 loop-k-preserved c =
-    let q = c.before.before.before in
+    let q = (goal.at.loop-k-preserved c).In-loop-k in
     let w = c.last_track-part.ensures in
-    let e = c.larger-best.ensures ∙ ap (λ (e : Extent). larger e q.loop-k.best) c.collision_extent-extent.ensures in (
+    let e = c.max-best.ensures ∙ larger_max c.collision_extent.result q.loop-k.best ∙ ap (λ (e : Option ℤ). larger e q.loop-k.best) c.collision_extent.ensures in (
       omega (arith, next_at (f q) (v q) (x q).begins q.loop-k-test.true w, w.low),
       λ y. next_far (holds_front y.holds) (q.loop-k.invariant.1 y) y.begins q.loop-k-test.true y.holds w e,
     )

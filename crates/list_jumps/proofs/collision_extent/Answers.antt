@@ -1,4 +1,4 @@
--- `jumps::collision_extent`: records that start at the end or behind it don't count, and the last of the others decides. Assumes nothing.
+-- Records that start at the end or behind it don't count, and the last of the others decides.
 use mathlib.Core.Path.{◌≡◌, sym, ap, ◌∙◌}
 use Prim.Native.Nat.{ℕ, suc, ◌-◌, ◌/◌}
 use native.Mathlib.Omega.{arith}
@@ -10,64 +10,34 @@ use Rattle.theory_signed.proofs.Laws.{signed, g_lt_true}
 use Rattle.theory_intervals.specs.Lists.{recs}
 use Rattle.list_jumps.specs.Calls.{extent_of}
 use Rattle.list_rules.specs.Inner.{start_no, end_no, Starting}
+use Rattle.list_jumps.proofs.Maximum.{if_some}
 use Rattle.list_jumps.proofs.LastOverlap.{extent_step, late_off, settled}
-use Rattle.list_jumps.proofs.collision_extent.Goals.{After-number-ends, After-starting_before-k, Start}
+use Rattle.list_jumps.proofs.collision_extent.Goals.{After-starting_before-k}
 use Rattle.list_jumps.proofs.collision_extent.Goals as goal
 
-pub starting_before-k-requires : goal.starting_before-k-requires
-starting_before-k-requires c = c.requires
-
 -- how many start before the end, and that the others don't count
-module _ (c : After-starting_before-k) where
-  abbrev s : Start
-  s = c.before
+split : (c : After-starting_before-k) → Starting c.args.part.now (length c.args.part.now / 4) c.args.end c.starting_before-k.result
+split c = rw (to_z-of_z c.ranges.end) at c.starting_before-k.ensures
 
-  abbrev k : ℕ
-  k = c.starting_before-k.result
-
-  split : Starting s.args.part.now (length s.args.part.now / 4) s.args.end k
-  split = rw (to_z-of_z s.ranges.end) at c.starting_before-k.ensures
-
-  front : extent_of (recs (length s.args.part.now / 4) s.args.part.now) s.args.start s.args.end ≡ extent_of (recs k s.args.part.now) s.args.start s.args.end
-  front = late_off s.args.part.now s.args.start s.args.end k (length s.args.part.now / 4) split.within split.above
+front : (c : After-starting_before-k) → extent_of (recs (length c.args.part.now / 4) c.args.part.now) c.args.start c.args.end ≡ extent_of (recs c.starting_before-k.result c.args.part.now) c.args.start c.args.end
+front c = late_off c.args.part.now c.args.start c.args.end c.starting_before-k.result (length c.args.part.now / 4) (split c).within (split c).above
 
 pub returns-then-k-eq0 : goal.returns-then-k-eq0
 returns-then-k-eq0 c =
     let a = c.before in
-    let e : k a ≡ 0 = c.if-k-eq0.true in
-    sym (front a ∙ ap (λ (m : ℕ). extent_of (recs m (s a).args.part.now) (s a).args.start (s a).args.end) e)
-
-pub overflow_mul-k : goal.overflow_mul-k
-overflow_mul-k c = omega (arith, (split c.before).within)
-
-pub overflow_add-k : goal.overflow_add-k
-overflow_add-k c = omega (arith, (split c.before).within)
-
-pub number-ends-requires : goal.number-ends-requires
-number-ends-requires c = omega (arith, (split c.before).within, c.if-k-eq0.false)
-
--- once the last of them is read
-module _ (c : After-number-ends) where
-  abbrev a : After-starting_before-k
-  a = c.before.before
-
-  abbrev j : ℕ
-  j = k a - 1
-
-  some : k a ≡ suc j
-  some = omega (arith, c.if-k-eq0.false)
-
-pub returns-then-start-ends : goal.returns-then-start-ends
-returns-then-start-ends c =
-    let n = c.before in
-    let z = s (a n) in
-    let l = z.args.part.now in
-    let e : to_z w16 (of_z w16 n.number-ends.result) ≡ end_no l (j n) = omega signed in
-    let b = (split (a n)).below (j n) (omega (arith, some n)) in
-    rw (e, front (a n), extent_step l z.args.start z.args.end (k (a n)) (j n) (some n), g_lt_true (start_no l (j n)) z.args.end (omega signed), g_lt_true z.args.start (end_no l (j n)) (omega signed))
+    sym (front a ∙ ap (λ (m : ℕ). extent_of (recs m a.args.part.now) a.args.start a.args.end) c.if-k-eq0.true)
 
 pub returns : goal.returns
 returns c =
-    let n = c.before in
-    let z = s (a n) in
-    sym (front (a n) ∙ settled z.requires z.args.start z.args.end (k (a n)) (j n) (some n) (omega (arith, some n, (split (a n)).within)) (omega signed))
+    let a = c.before.before.before in
+    let z = a.args in
+    let l = z.part.now in
+    let k = a.starting_before-k.result in
+    let j : ℕ = k - 1 in
+    let some : k ≡ suc j = omega (arith, c.if-k-eq0.false) in
+    let e : to_z w16 (of_z w16 c.number-ends.result) ≡ end_no l j = omega signed in
+    let b = (split a).below j (omega (arith, some)) in
+    c.then_some.ensures
+    ∙ if_some _ _ _
+    (λ h. rw (e, front a, extent_step l z.start z.end k j some, g_lt_true (start_no l j) z.end (omega signed), g_lt_true z.start (end_no l j) (omega signed)))
+    (λ h. sym (front a ∙ settled a.requires z.start z.end k j some (omega (arith, some, (split a).within)) (omega signed)))

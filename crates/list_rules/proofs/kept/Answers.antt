@@ -1,21 +1,16 @@
--- `rules::kept`. Assumes nothing.
-use mathlib.Core.Path.{sym}
+-- The front cannot be longer, so the answer is whether there are only zeros behind it.
+use mathlib.Core.Path.{◌∙◌}
 use Prim.Native.Nat.{◌*◌}
-use Rattle.list_rules.specs.Inner.{Zeros}
-use Rattle.list_rules.proofs.ByIndex.{both_kept, front_broken}
-use Rattle.list_rules.proofs.Turns.{says_yes, says_no}
-use Rattle.list_rules.proofs.kept.Goals.{After-front-n}
+use Rattle.std.proofs.Common.{ap}
+use Rattle.std.proofs.lemmas.List.{take_rest}
+use Rattle.std.specs.Bool.{then_some}
+use Rattle.std.specs.List.{list_all}
+use Rattle.theory_intervals.specs.OverInt.{is_zero}
+use Rattle.list_rules.proofs.ByIndex.{kept_is}
 use Rattle.list_rules.proofs.kept.Goals as goal
-
-abbrev Z : After-front-n → Type 0
-Z a = Zeros a.args.list.now (4 * a.front-n.result)
-
-pub returns-then-zeros : goal.returns-then-zeros
-returns-then-zeros c =
-    let a = c.before.before in
-    sym (both_kept (record { front = a.front-n.ensures.front; zeros = says_yes c.zeros.result (Z a) c.zeros.ensures c.if-zeros.true }))
 
 pub returns : goal.returns
 returns c =
-    let a = c.before.before in
-    sym (front_broken a.front-n.ensures.front a.front-n.ensures.fact (says_no c.zeros.result (Z a) c.zeros.ensures c.if-zeros.false))
+    let n = c.front-n in
+    let rest = take_rest c.args.list.now (4 * n.result) in
+    c.then_some.ensures ∙ ap (λ b. then_some b n.result) (c.zeros.ensures ∙ ap (list_all is_zero) rest) ∙ kept_is n.ensures.front n.ensures.fact

@@ -1,9 +1,5 @@
-use Rattle.theory_signed.specs.Parts.{gap}
 use Rattle.list_sweeps.proofs.Sweeping.{SInv}
 use Rattle.list_sweeps.proofs.sweep.Given as goal
 
 abbrev pub invariant-loop-t : goal.invariant-loop-t
-invariant-loop-t l = SInv l.all l.initial.list l.initial.r l.initial.w l.top l.t1 l.t2 l.a l.b l.s l.list l.r l.w l.t
-
-abbrev pub decreases-loop-t : goal.decreases-loop-t
-decreases-loop-t l = gap l.t1 l.t
+invariant-loop-t l = SInv l.all l.initial.list l.initial.gap.r l.initial.gap.w l.top l.area.track_start l.area.track_end l.area.stroke.start l.area.stroke.end l.area.stroke.state l.list l.gap.r l.gap.w l.t

@@ -1,53 +1,33 @@
--- `tracks::halved`: what is below lo is below x, what is from hi on is not. Assumes nothing.
-use Prim.Native.Nat.{ℕ, ◌+◌, ◌-◌, ◌/◌}
+-- The records are in order by their tracks, and so are their fours.
+use mathlib.Core.Path.{ap}
+use Prim.Native.Nat.{ℕ, ◌+◌, ◌*◌}
 use native.Mathlib.Omega.{arith}
-use mir.Facts.{to_z-of_z}
-use Rattle.theory_signed.proofs.Laws.{signed}
-use Rattle.list_tracks.proofs.Sorted.{sorted, go_up, go_down, found}
-use Rattle.list_tracks.proofs.halved.Goals.{At-loop-lo}
+use lib.Signed.{lt_z}
+use Rattle.std.proofs.Common.{rules, of_calls, ◌≡◌, get_or, pos}
+use Rattle.std.proofs.lemmas.Fn.{always_returns_same}
+use Rattle.theory_intervals.proofs.Lists.{holds_room}
+use Rattle.list_rules.specs.Inner.{track_no}
+use Rattle.list_rules.proofs.ByIndex.{holds_front}
+use Rattle.list_tracks.proofs.Sorted.{sorted, found}
+use Rattle.list_tracks.proofs.Fours.{parted, passed}
 use Rattle.list_tracks.proofs.halved.Goals as goal
 
-pub loop-lo-init : goal.loop-lo-init
-loop-lo-init c = (omega arith, rw (to_z-of_z c.ranges.x) (record { order = c.requires.from_le_used; left = omega arith; below = c.requires.by_index; above = λ k a b. absurd (omega arith) }))
+pub offset_bounds-fours-from : goal.offset_bounds-fours-from
+offset_bounds-fours-from c = omega (arith, holds_room c.args.records.holds)
 
-pub overflow_sub-mid : goal.overflow_sub-mid
-overflow_sub-mid c = omega arith
-
-pub overflow_add-mid : goal.overflow_add-mid
-overflow_add-mid c = omega arith
-
-pub overflow_mul-mid : goal.overflow_mul-mid
-overflow_mul-mid c = omega (arith, c.requires.front.room)
-
-pub number-track-requires : goal.number-track-requires
-number-track-requires c = omega (arith, c.requires.front.room)
-
-pub overflow_cast-track : goal.overflow_cast-track
-overflow_cast-track c = omega signed
-
-pub overflow_add-lo : goal.overflow_add-lo
-overflow_add-lo c = omega arith
-
-pub loop-lo-smaller-then-track-x : goal.loop-lo-smaller-then-track-x
-loop-lo-smaller-then-track-x c = omega arith
-
-abbrev mid : At-loop-lo → ℕ
-mid q = q.loop-lo.lo + (q.loop-lo.hi - q.loop-lo.lo) / 2
-
-pub loop-lo-preserved-then-track-x : goal.loop-lo-preserved-then-track-x
-loop-lo-preserved-then-track-x c =
-    let q = c.before.before.before in
-    (omega arith, go_up (sorted q.requires.front) q.loop-lo.invariant.1 (mid q) (omega arith) (omega (signed, overflow_cast-track c.before)))
-
-pub loop-lo-smaller : goal.loop-lo-smaller
-loop-lo-smaller c = omega arith
-
-pub loop-lo-preserved : goal.loop-lo-preserved
-loop-lo-preserved c =
-    let q = c.before.before.before in
-    (omega arith, go_down (sorted q.requires.front) q.loop-lo.invariant.1 (mid q) (omega arith) (omega arith) (omega (signed, overflow_cast-track c.before)))
+pub slice_bounds-partition_point-end : goal.slice_bounds-partition_point-end
+slice_bounds-partition_point-end c = let e = c.as_chunks.ensures.front_len in omega (arith, holds_room c.args.records.holds)
 
 pub returns : goal.returns
 returns c =
-    let q = c.before in
-    (q.loop-lo.invariant.0, rw (to_z-of_z q.ranges.x) at (found q.args.list.now q.loop-lo.invariant.1 c.loop-lo-test.false))
+    let z = c.args in
+    let l = z.records.list.now in
+    let fours = c.as_chunks.ensures in
+    let room = holds_room z.records.holds in
+    let few = c.requires.from_le_used in
+    let number : (k : ℕ) → get_or l (4 * k + 0) (pos 0) ≡ track_no l k = λ k. (let e : 4 * k + 0 ≡ 4 * k = omega arith in ap (λ (m : ℕ). get_or l m (pos 0)) e) in
+    let point = c.partition_point.ensures.partitioned (λ y. lt_z (get_or y 0 (pos 0)) z.x) (always_returns_same _ _ _ (λ a r f k. search (rules, of_calls)))
+    (parted l c.as_chunks.result.0.now fours.front fours.front_len 0 (omega arith) (track_no l) number z.from z.records.used z.x room few (sorted (holds_front z.records.holds))) in
+    let bound = c.partition_point.ensures.bound in
+    let halves = passed l c.as_chunks.result.0.now fours.front fours.front_len 0 (omega arith) (track_no l) number z.from z.records.used z.x room few c.partition_point.result bound point c.requires.by_index in
+    (omega arith, found l halves (omega arith))

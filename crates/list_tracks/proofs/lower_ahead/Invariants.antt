@@ -1,10 +1,7 @@
-use Prim.Native.Nat.{◌-◌, ◌≤◌}
+use Prim.Native.Nat.{◌≤◌}
 use Rattle.list_rules.specs.Inner.{track_no}
 use Rattle.list_tracks.proofs.Sorted.{Halving}
 use Rattle.list_tracks.proofs.lower_ahead.Given as goal
 
 abbrev pub invariant-loop-k : goal.invariant-loop-k
-invariant-loop-k l = (l.from ≤ l.k) × Halving (track_no l.list) l.used l.x l.k l.used
-
-abbrev pub decreases-loop-k : goal.decreases-loop-k
-decreases-loop-k l = l.used - l.k
+invariant-loop-k l = (l.from ≤ l.k) × Halving (track_no l.records.list.now) l.records.used l.x l.k l.records.used

@@ -5,10 +5,10 @@ use mir.Facts.{to_z-of_z}
 use Rattle.list_tracks.proofs.Standing.{stands_part}
 use Rattle.list_tracks.proofs.track_or_none.Goals as goal
 
-pub overflow_add-end : goal.overflow_add-end
-overflow_add-end c = omega (arith, c.place_or_none-place.ensures.inside)
+pub overflow_add-result : goal.overflow_add-result
+overflow_add-result c = omega (arith, c.place_or_none-start.ensures.inside)
 
 pub returns : goal.returns
 returns c =
-    let a = c.before.before in
-    stands_part (rw (to_z-of_z a.ranges.track) at a.place_or_none-place.ensures) refl
+    let a = c.before in
+    stands_part (rw (to_z-of_z a.ranges.track) at a.place_or_none-start.ensures) refl

@@ -1,36 +1,44 @@
--- `put_answer` meets its contract.
+-- `put_answer` meets its contract: the part is written over by the five numbers of the answer.
+use Rattle.std.proofs.Common.{rules}
+use native.Mathlib.Omega.{arith}
+use mathlib.Core.Path.{◌≡◌, ◌∙◌}
+use mathlib.Core.Bool.{Bool, true, false}
+use mathlib.Core.List.{List, [], ◌∷◌}
+use Prim.Native.Nat.{ℕ, ◌+◌, ◌-◌, ◌*◌, ◌<◌}
+use lib.IntN.{ℤ, pos}
 use mir.Syntax.{w16}
-use mir.Val.{SFits}
+use mir.Val.{SFits, to_z, of_z}
+use mir.ValLaws.{to_z_pos}
 use mir.Facts.{to_z-of_z}
-use Rattle.theory_signed.proofs.Laws.{fit16}
-use Rattle.placing_laying.proofs.put_answer.Goals.{After-struct_told-4-1, Start}
+use Rattle.grid_coordinates.specs.declared.Lines.{Lines}
+use Rattle.theory_walk.specs.Axis.{laid}
+use Rattle.placing_request.specs.Items.{axis_of}
+use Rattle.placing_laying.proofs.Laying.{put_sets}
+use Rattle.placing_laying.proofs.put_answer.Goals.{then-columns, else-columns}
 use Rattle.placing_laying.proofs.put_answer.Goals as goal
 
--- the four lines fit 16 bits
-module _ (c : After-struct_told-4-1) where
-  abbrev start : Start
-  start = c.before.before.before.before
+-- what is read back of the numbers' bits are the numbers
+same_five : {l : List ℤ} (q r : Lines × Lines) (m : ℕ) → q ≡ r
+    → l ≡ (to_z w16 (of_z w16 q.0.start) ∷ to_z w16 (of_z w16 q.0.end) ∷ to_z w16 (of_z w16 q.1.start) ∷ to_z w16 (of_z w16 q.1.end) ∷ to_z w16 m ∷ [])
+    → SFits w16 q.0.start → SFits w16 q.0.end → SFits w16 q.1.start → SFits w16 q.1.end → m < 32768 → l ≡ (r.0.start ∷ r.0.end ∷ r.1.start ∷ r.1.end ∷ pos m ∷ [])
+same_five q r m j i e f g h k = let n : to_z w16 m ≡ pos m = to_z_pos w16 m (omega arith) in rw (← j) (i ∙ rw (to_z-of_z e, to_z-of_z f, to_z-of_z g, to_z-of_z h, n))
 
-  f_p_start : SFits w16 start.args.p.start
-  f_p_start = fit16 start.args.p.start c.struct_told-1.given.0.1
+on_columns : (columns : Bool) (p s : Lines) → columns ≡ true → laid (axis_of columns) p s ≡ record { columns = p; rows = s }
+on_columns columns p s e = rw e
 
-  f_p_end : SFits w16 start.args.p.end
-  f_p_end = fit16 start.args.p.end c.struct_told-1.given.1.0.1
-
-  f_s_start : SFits w16 start.args.s.start
-  f_s_start = fit16 start.args.s.start c.struct_told-3-1.given.0.1
-
-  f_s_end : SFits w16 start.args.s.end
-  f_s_end = fit16 start.args.s.end c.struct_told-3-1.given.1.0.1
-
-pub returns-then-columns : goal.returns-then-columns
-returns-then-columns c =
-    let t = c.before.before.before in
-    let b = t.before in
-    rw t.if-columns.true (rw (to_z-of_z (f_p_start b), to_z-of_z (f_p_end b), to_z-of_z (f_s_start b), to_z-of_z (f_s_end b)) at c.put_five.ensures)
+on_rows : (columns : Bool) (p s : Lines) → columns ≡ false → laid (axis_of columns) p s ≡ record { columns = s; rows = p }
+on_rows columns p s e = rw e
 
 pub returns : goal.returns
 returns c =
-    let t = c.before.before.before in
-    let b = t.before in
-    rw t.if-columns.false (rw (to_z-of_z (f_s_start b), to_z-of_z (f_s_end b), to_z-of_z (f_p_start b), to_z-of_z (f_p_end b)) at c.put_five-2.ensures)
+    let mark = c.requires.mark_bound in
+    elim c.if-columns.branch [
+      | then-columns w ↦
+          let five = same_five _ _ c.args.mark w.t-11-is c.copy_from_slice.ensures.after (search rules) (search rules) (search rules) (search rules) mark in
+          rw (on_columns c.args.columns c.args.p c.args.s w.if-columns.true)
+          (put_sets (5 * c.args.i) (5 * c.args.i + 5 - 5 * c.args.i) c.args.answers.now _ _ five (omega arith) (omega arith))
+      | else-columns w ↦
+          let five = same_five _ _ c.args.mark w.t-11-is c.copy_from_slice.ensures.after (search rules) (search rules) (search rules) (search rules) mark in
+          rw (on_rows c.args.columns c.args.p c.args.s w.if-columns.false)
+          (put_sets (5 * c.args.i) (5 * c.args.i + 5 - 5 * c.args.i) c.args.answers.now _ _ five (omega arith) (omega arith))
+    ]

@@ -1,4 +1,3 @@
--- `placing`: the definition at the kind's test. Assumes nothing.
 use mathlib.Core.Path.{◌≡◌}
 use mathlib.Core.Bool.{false}
 use lib.Dec.{lit<}
@@ -8,7 +7,7 @@ use mir.Facts.{to_z-of_z}
 use Rattle.theory_signed.specs.Parts.{eq_z}
 use Rattle.theory_signed.proofs.Laws.{signed, fit16, same, differ, eq_yes, eq_no}
 use Rattle.theory_walk.specs.Request.{placing_of}
-use Rattle.placing_request.proofs.Items.{span_at}
+use Rattle.placing_request.proofs.ItemLemmas.{span_at}
 use Rattle.placing_request.proofs.placing.Goals.{Else-kind-eq0}
 use Rattle.placing_request.proofs.placing.Goals as goal
 
@@ -26,6 +25,6 @@ other c = let e = differ w16 c.args.kind (pos 0) c.if-kind-eq0.false in eq_no c.
 pub overflow_cast-result : goal.overflow_cast-result
 overflow_cast-result c = omega (signed, span_at c.args.kind c.args.a c.args.b c.requires (other c))
 
-pub returns : goal.returns
+pub returns-else-kind-eq0 : goal.returns-else-kind-eq0
 unfolding placing_of
-returns c = rw (to_z-of_z c.ranges.a, other c)
+returns-else-kind-eq0 c = rw (to_z-of_z c.ranges.a, other c)

@@ -21,7 +21,7 @@ use Rattle.list_tracks.proofs.Sorted.{split_as}
 use Rattle.theory_walk.specs.Search.{at}
 use Rattle.placing_search.specs.Clear.{Inside}
 use Rattle.placing_search.proofs.Turns.{pair_found, Along, pair_here, pair_on_lem, pair_down, pair_within, stripe_found}
-use Rattle.placing_search.proofs.first_free_pair.Goals.{After-collision_between-jump, After-loop-primary, After-lower-first, After-struct_told-4-1, At-search, In-Next, In-loop-primary, Then-last-grid_start}
+use Rattle.placing_search.proofs.first_free_pair.Goals.{After-collision_between, After-loop-primary, After-lower-first, After-struct_told-4-1, At-search, In-Some, In-loop-primary, Then-last-grid_start}
 use Rattle.placing_search.proofs.first_free_pair.Invariants.{Small}
 use Rattle.placing_search.proofs.first_free_pair.Goals as goal
 
@@ -40,10 +40,10 @@ overflow_sub-last c =
 -- the parameters
 module _ (c : After-struct_told-4-1) where
   abbrev l : List ℤ
-  l = c.args.list.now
+  l = c.args.records.list.now
 
   abbrev count : ℕ
-  count = c.args.used
+  count = c.args.records.used
 
   abbrev rs : List (Rec ℤ)
   rs = recs count l
@@ -79,10 +79,10 @@ module _ (c : After-struct_told-4-1) where
   fit_secondary = fit16 c.args.from.secondary c.struct_told-3-1.given.1.0.1
 
   keep : rules rs ≡ true
-  keep = c.requires.holds.keep
+  keep = c.args.records.holds.keep
 
   front : Front l count
-  front = holds_front c.requires.holds
+  front = holds_front c.args.records.holds
 
   inside : Inside rs begins ends
   inside = rw (to_z-of_z fit_start, to_z-of_z fit_end) c.requires.inside
@@ -99,7 +99,6 @@ overflow_cast-secondary c = omega (signed, fit_secondary c)
 
 pub lower-first-requires : goal.lower-first-requires
 lower-first-requires c = record {
-  front = front c;
   from_le_used = omega arith;
   by_index = λ k h. absurd (omega arith);
 }
@@ -117,7 +116,6 @@ pub lower-past-requires : goal.lower-past-requires
 lower-past-requires c =
     let b = first_begins c in
     record {
-      front = front c.before;
       from_le_used = b.within;
       by_index = λ k h. let x = b.below k h in omega (signed, overflow_cast-m c.before.before.before, overflow_add-secondary c, overflow_cast-secondary-2 c);
     }
@@ -153,7 +151,7 @@ module _ (b : At-search) where
     used = count given;
     low = s;
     high = below;
-    holds = given.requires.holds;
+    holds = given.args.records.holds;
     order = omega (signed, sum s (pos (height given)));
     begins = b.search.invariant.3.0;
     ends = b.search.invariant.3.1;
@@ -162,10 +160,7 @@ module _ (b : At-search) where
 pub first_free_stripe-secondary-requires : goal.first_free_stripe-secondary-requires
 first_free_stripe-secondary-requires c =
     let a = (given c.before.before).before.before.before.before in
-    record {
-      holds = a.requires.holds;
-      le_span = (a.requires.le_secondary_span.0, (a.requires.le_secondary_span.1, omega signed));
-    }
+    (a.requires.le_secondary_span.0, (a.requires.le_secondary_span.1, omega signed))
 
 -- the span leaves no other line
 whole_is : (c : Then-last-grid_start) → let a = given c.before.before in begins a +ℤ pos (width a) ≡ ends a
@@ -182,10 +177,10 @@ pub overflow_add-primary : goal.overflow_add-primary
 overflow_add-primary c = omega (signed, overflow_cast-n (given c.before.before).before.before)
 
 pub overflow_add-primary-in-loop-primary : goal.overflow_add-primary-in-loop-primary
-overflow_add-primary-in-loop-primary c = overflow_add-primary c.before
+overflow_add-primary-in-loop-primary c = overflow_add-primary c.before.before
 
-pub collision_between-jump-requires : goal.collision_between-jump-requires
-collision_between-jump-requires c = crossed c.before.before.before
+pub collision_between-requires : goal.collision_between-requires
+collision_between-requires c = crossed c.before.before.before.before
 
 -- in a turn on a secondary line
 module _ (c : In-loop-primary) where
@@ -206,30 +201,30 @@ module _ (c : In-loop-primary) where
   ends_inside : right ≤ℤ ends (given line)
   ends_inside = omega signed
 
-jump_is : (k : After-collision_between-jump) → let b = line k.before in k.collision_between-jump.result ≡ collision_jump (rs (given b)) (s b) (below b) (p k.before) (right k.before)
+jump_is : (k : After-collision_between) → let b = line k.before.before in k.collision_between.result ≡ collision_jump (rs (given b)) (s b) (below b) (p k.before.before) (right k.before.before)
 unfolding crossed
-jump_is k = k.collision_between-jump.ensures (crossed (line k.before))
+jump_is k = k.collision_between.ensures (crossed (line k.before.before))
 
 -- a turn that goes on
-on : (c : In-Next)
-    → let q = c.before.before in
+on : (c : In-Some)
+    → let q = c.before.before.before in
     let a = given (line q) in
-    Along (rs a) (width a) (height a) (begins a) (ends a) (s (line q)) (p q) c.in-Next.e
+    Along (rs a) (width a) (height a) (begins a) (ends a) (s (line q)) (p q) c.in-Some.next
 on c =
     let k = c.before in
-    let q = k.before in
+    let q = k.before.before in
     let b = line q in
     let a = given b in
-    pair_on_lem (rs a) (keep a) (width a) (height a) (begins a) (ends a) (fits a) (p q) (s b) (right q) (below b) c.in-Next.e refl (right_is q)
-    (sym (jump_is k) ∙ c.in-Next.is)
+    pair_on_lem (rs a) (keep a) (width a) (height a) (begins a) (ends a) (fits a) (p q) (s b) (right q) (below b) c.in-Some.next refl (right_is q)
+    (sym (jump_is k) ∙ c.in-Some.is)
 
 pub loop-primary-smaller : goal.loop-primary-smaller
-loop-primary-smaller c = let t = on c in omega (signed, fit16 c.in-Next.e c.in-Next.known_told-1-own.given.0.1)
+loop-primary-smaller c = let t = on c in omega (signed, fit16 c.in-Some.next c.in-Some.known_told-1-own.given.0.1)
 
 pub loop-primary-preserved : goal.loop-primary-preserved
 loop-primary-preserved c =
     let t = on c in
-    let f = fit16 c.in-Next.e c.in-Next.known_told-1-own.given.0.1 in
+    let f = fit16 c.in-Some.next c.in-Some.known_told-1-own.given.0.1 in
     ((omega (signed, rng f), omega signed), rw (to_z-of_z f) (c.loop-primary.invariant.1 ∙ t.same))
 
 pub overflow_add-secondary-in-search : goal.overflow_add-secondary-in-search
@@ -244,7 +239,6 @@ lower_ahead-first-requires c =
     let b = c.before.before.before in
     let i = b.search.invariant.3.0 in
     record {
-      front = front (given b);
       from_le_used = omega arith;
       by_index = λ k h. let x = i.below k h in omega (signed, overflow_add-secondary-in-search c, overflow_cast-secondary-in-search c);
     }
@@ -260,7 +254,6 @@ lower_ahead-past-requires c =
     let b = c.before.before.before.before in
     let i = b.search.invariant.3.1 in
     record {
-      front = front (given b);
       from_le_used = omega arith;
       by_index = λ k h. let x = i.below k h in omega (signed, overflow_add-secondary-in-search c.before, overflow_cast-m (given b).before.before, overflow_add-secondary-in-search-2 c, overflow_cast-secondary-in-search-2 c);
     }
@@ -316,7 +309,7 @@ returns-then-last-grid_start c =
 pub returns-in_default : goal.returns-in_default
 returns-in_default c =
     let k = c.before in
-    let q = k.before in
+    let q = k.before.before in
     let b = line q in
     let a = given b in
     let found = pair_here (rs a) (keep a) (width a) (height a) (begins a) (ends a) (fits a) (p q) (s b) (right q) (below b) refl (right_is q) (ends_inside q)

@@ -4,7 +4,7 @@ use Prim.Native.Nat.{ℕ}
 use lib.IntN.{ℤ, pos, negsuc, ◌+ℤ◌}
 use lib.Signed.{◌≤ℤ◌}
 use Rattle.theory_signed.specs.Parts.{gap}
-use Rattle.theory_intervals.specs.Lists.{recs}
+use Rattle.list_rules.specs.Held.{held}
 use Rattle.list_rules.specs.Inner.{Split}
 use Rattle.placing_search.proofs.Turns.{pair_found}
 use Rattle.placing_search.proofs.first_free_pair.Given as goal
@@ -19,8 +19,8 @@ Across list used s height first past = Split list used s first × Split list use
 
 abbrev pub invariant-loop-primary : goal.invariant-loop-primary
 invariant-loop-primary l = Small l.primary (pos 20000)
-    × (pair_found (recs l.used l.list) l.primary_span l.secondary_span l.grid_start l.grid_end l.initial.primary l.secondary
-    ≡ pair_found (recs l.used l.list) l.primary_span l.secondary_span l.grid_start l.grid_end l.primary l.secondary)
+    × (pair_found (held l.records) l.primary_span l.secondary_span l.grid_start l.grid_end l.initial.primary l.secondary
+    ≡ pair_found (held l.records) l.primary_span l.secondary_span l.grid_start l.grid_end l.primary l.secondary)
 
 abbrev pub decreases-loop-primary : goal.decreases-loop-primary
 decreases-loop-primary l = gap l.primary (pos 10000)
@@ -28,9 +28,9 @@ decreases-loop-primary l = gap l.primary (pos 10000)
 abbrev pub invariant-search : goal.invariant-search
 invariant-search l = Small l.primary (pos 20000)
     × Small l.secondary (pos 12001)
-    × (pair_found (recs l.used l.list) l.primary_span l.secondary_span l.grid_start l.grid_end l.initial.primary l.initial.secondary
-    ≡ pair_found (recs l.used l.list) l.primary_span l.secondary_span l.grid_start l.grid_end l.primary l.secondary)
-    × Across l.list l.used l.secondary l.secondary_span l.first l.past
+    × (pair_found (held l.records) l.primary_span l.secondary_span l.grid_start l.grid_end l.initial.primary l.initial.secondary
+    ≡ pair_found (held l.records) l.primary_span l.secondary_span l.grid_start l.grid_end l.primary l.secondary)
+    × Across l.records.list.now l.records.used l.secondary l.secondary_span l.first l.past
 
 -- every secondary line from 10000 on is clear, and the start may stand past 10000
 abbrev pub decreases-search : goal.decreases-search

@@ -1,117 +1,87 @@
 -- `place_definite_secondary_axis_item` meets its contract: an item that is not fixed in the secondary axis only is passed over, and any other is laid on
 -- the first free primary line, which is `put` on the board. Assumes nothing.
-use mathlib.Core.Path.{◌≡◌, refl, sym, ap, ◌∙◌}
-use Prim.Native.Nat.{ℕ, ◌≤◌}
+use mathlib.Core.Path.{◌≡◌, refl, sym, ◌∙◌}
+use mathlib.Core.List.{List}
+use lib.IntN.{ℤ}
 use native.Mathlib.Omega.{arith}
-use lib.Signed.{◌<ℤ◌}
-use Rattle.theory_signed.proofs.Laws.{signed}
-use Rattle.grid_coordinates.specs.declared.Lines.{Lines}
 use Rattle.theory_walk.specs.declared.Placement.{Placement}
 use Rattle.theory_walk.specs.declared.Placement.TheVariants.{Fixed, Spanned}
-use Rattle.theory_walk.specs.Axis.{Axis, other, on}
+use Rattle.theory_walk.proofs.Range.{Good}
 use Rattle.theory_walk.specs.Walk.{step2}
-use Rattle.theory_walk.specs.Request.{item_of}
-use Rattle.placing_request.specs.Items.{axis_of, item_at}
-use Rattle.placing_request.proofs.Items.{good_placement}
 use Rattle.placing_laying.specs.Ready.{setting_for, primary_of, secondary_of}
-use Rattle.placing_laying.proofs.Lays.{primary_holds, secondary_holds, sound_primary, sound_secondary, passed, other_axis}
-use Rattle.placing_step2.proofs.Step2.{pass_primary, pass_secondary, start_grid, step2_laid, span_in, lines_in}
-use Rattle.placing_step2.proofs.place_definite_secondary_axis_item.Goals.{After-placement_on, In-Spanned, Start}
+use Rattle.placing_laying.proofs.Lays.{primary_holds, secondary_holds, sound_primary, sound_secondary, passed}
+use Rattle.placing_laying.proofs.Steps.{both_good, in_order, span_in}
+use Rattle.placing_step2.proofs.Step2.{pass_primary, pass_secondary, start_grid, step2_laid}
+use Rattle.placing_step2.proofs.place_definite_secondary_axis_item.Goals.{In-Spanned}
 use Rattle.placing_step2.proofs.place_definite_secondary_axis_item.Goals as goal
-
-pub placement_on-requires : goal.placement_on-requires
-placement_on-requires c = record {
-  i_in_bounds = omega (arith, c.requires.items.long);
-  i_value = c.requires.items.good c.args.i (omega arith);
-}
-
--- the first placement is of the other axis
-first : (c : After-placement_on) → c.placement_on.result ≡ secondary_of c.args.columns c.args.items.now c.args.i
-first c =
-    let g = c.args in
-    c.placement_on.ensures ∙ ap (λ (x : Axis). on x (item_of (item_at g.items.now g.i))) (other_axis g.columns)
 
 pub returns-in_default : goal.returns-in_default
 returns-in_default c =
-    let a = c.before in
-    let g = a.args in
+    let g = c.args in
+    let l = g.run.items.numbers.now in
+    let S-is = sym c.secondary_placement.ensures ∙ c.in_default.is in
     λ room old b k rec.
-    passed g.i k (step2 (setting_for g.columns g.dense room) g.i (primary_of g.columns g.items.now g.i) (secondary_of g.columns g.items.now g.i) b)
-    (pass_secondary (setting_for g.columns g.dense room) g.i (primary_of g.columns g.items.now g.i) (secondary_of g.columns g.items.now g.i) b c.in_default.field-0 (sym (first a) ∙ c.in_default.is))
+    passed g.i k (step2 (setting_for g.run.columns g.run.dense room) g.i (primary_of g.run.columns l g.i) (secondary_of g.run.columns l g.i) b)
+    (pass_secondary (setting_for g.run.columns g.run.dense room) g.i (primary_of g.run.columns l g.i) (secondary_of g.run.columns l g.i) b c.in_default.field-0 S-is)
 
-pub placement_on-requires-2 : goal.placement_on-requires-2
-placement_on-requires-2 c = let s = c.before.before in record {
-  i_in_bounds = omega (arith, s.requires.items.long);
-  i_value = s.requires.items.good s.args.i (omega arith);
-}
-
-pub returns-in_default-placement_on : goal.returns-in_default-placement_on
-returns-in_default-placement_on c =
-    let a = c.before in
-    let g = a.args in
+pub returns-in_default-primary_placement : goal.returns-in_default-primary_placement
+returns-in_default-primary_placement c =
+    let g = c.args in
+    let l = g.run.items.numbers.now in
+    let P-is = sym c.primary_placement.ensures ∙ c.in_default-primary_placement.is in
     λ room old b k rec.
-    passed g.i k (step2 (setting_for g.columns g.dense room) g.i (primary_of g.columns g.items.now g.i) (secondary_of g.columns g.items.now g.i) b)
-    (pass_primary (setting_for g.columns g.dense room) g.i (primary_of g.columns g.items.now g.i) (secondary_of g.columns g.items.now g.i) b c.in_default-placement_on.field-0 (sym a.placement_on-2.ensures ∙ c.in_default-placement_on.is))
+    passed g.i k (step2 (setting_for g.run.columns g.run.dense room) g.i (primary_of g.run.columns l g.i) (secondary_of g.run.columns l g.i) b)
+    (pass_primary (setting_for g.run.columns g.run.dense room) g.i (primary_of g.run.columns l g.i) (secondary_of g.run.columns l g.i) b c.in_default-primary_placement.field-0 P-is)
 
 -- past both tests: the item's two placements, and that they are good
 module _ (c : In-Spanned) where
-  abbrev z : Start
-  z = c.before.before.before.before
+  abbrev l : List ℤ
+  l = c.args.run.items.numbers.now
 
   abbrev P : Placement
-  P = primary_of z.args.columns z.args.items.now z.args.i
+  P = primary_of c.args.run.columns l c.args.i
 
   abbrev S : Placement
-  S = secondary_of z.args.columns z.args.items.now z.args.i
+  S = secondary_of c.args.run.columns l c.args.i
 
-  abbrev n : ℕ
-  n = c.in-Spanned.span
+  P-is : P ≡ Spanned c.in-Spanned.span
+  P-is = sym c.primary_placement.ensures ∙ c.in-Spanned.is
 
-  abbrev s : Lines
-  s = c.in-Fixed.s
+  S-is : S ≡ Fixed c.in-Fixed.s
+  S-is = sym c.secondary_placement.ensures ∙ c.in-Fixed.is
 
-  P-is : P ≡ Spanned n
-  P-is = sym c.placement_on-2.ensures ∙ c.in-Spanned.is
+  good : Good (Spanned c.in-Spanned.span) × Good (Fixed c.in-Fixed.s)
+  good = both_good c.args.run.columns l c.args.i (Spanned c.in-Spanned.span) (Fixed c.in-Fixed.s) (c.args.run.items.good c.args.i c.requires.i_in_items) P-is S-is
 
-  S-is : S ≡ Fixed s
-  S-is = sym (first c.before.before.before) ∙ c.in-Fixed.is
-
-  span_good : (1 ≤ n) × (n ≤ 10000)
-  span_good = span_in P n P-is (good_placement z.args.items.now z.args.i (axis_of z.args.columns) (z.requires.items.good z.args.i (omega arith)))
-
-  lines_good : s.start <ℤ s.end
-  lines_good = lines_in S s S-is (good_placement z.args.items.now z.args.i (other (axis_of z.args.columns)) (z.requires.items.good z.args.i (omega arith)))
+pub invariant_of-records : goal.invariant_of-records
+invariant_of-records c = record { holds = secondary_holds c.requires.stands_at.1.1.1.0 }
 
 pub primary_lines-p-requires : goal.primary_lines-p-requires
 primary_lines-p-requires c =
-    let p = (z c).requires in
-    let k = p.stands_at.1.1.1 in record {
-      items = record { long = omega (arith, p.items.long); good = λ j h. p.items.good j (omega arith) };
+    let d = (goal.at.primary_lines-p-requires c).In-Spanned in
+    let k = c.requires.stands_at.1.1.1 in
+    record {
+      i_in_items = omega arith;
       i_in_bounds = omega arith;
-      onward = p.onward;
-      start_lt_end = lines_good c;
-      le_span = span_good c;
-      sound = (sound_primary k.0, secondary_holds k.0);
-      primary_bound = (start_grid (z c).args.dense k.0 (z c).args.items.now (z c).args.i k.1 (s c).start).high;
+      onward = c.requires.onward;
+      start_lt_end = in_order (good d).1;
+      le_span = span_in (good d).0;
+      sound = sound_primary k.0;
+      primary_bound = (start_grid c.args.run.dense k.0 (l d) c.args.i k.1 c.in-Fixed.s.start).high;
     }
 
 pub lay-requires : goal.lay-requires
 lay-requires c =
-    let v = c.before.before.before.before in
-    let k = (z v).requires.stands_at.1.1.1.0 in
+    let k = c.requires.stands_at.1.1.1.0 in
     record {
       holds = (primary_holds k, secondary_holds k);
       sound = (sound_primary k, sound_secondary k);
-      pos_bound = (omega signed, omega signed);
       flags_value = (refl, omega arith);
       i_in_bounds = omega arith;
     }
 
 pub returns : goal.returns
 returns c =
-    let l = c.before.before.before in
-    let f = l.before.before.before.before in
-    let v = f.before in
-    let g = (z v).args in
+    let v = (goal.at.returns c).In-Spanned in
     λ room old b k rec.
-    step2_laid g.dense k g.items.now g.i rec (P v) (S v) (n v) (s v) f.primary_lines-p.result (P-is v) (S-is v) (span_good v).0 (lines_good v) f.primary_lines-p.ensures l.lay.ensures
+    step2_laid c.args.run.dense k (l v) c.args.i rec (P v) (S v) v.in-Spanned.span v.in-Fixed.s c.primary_lines-p.result (P-is v) (S-is v) (span_in (good v).0).0 (in_order (good v).1) c.primary_lines-p.ensures c.lay.ensures

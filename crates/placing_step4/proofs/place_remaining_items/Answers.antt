@@ -1,90 +1,46 @@
 -- `place_remaining_items` meets its contract: the loop goes along what is left of the step, with the cursor.
-use mathlib.Core.Path.{◌≡◌, refl, ◌∙◌}
+use borrow.Author.Rules.{rules}
+use mathlib.Core.Path.{◌≡◌}
 use native.Mathlib.Omega.{arith}
 use mir.Syntax.{w16}
 use mir.Val.{to_z, of_z}
-use mir.Facts.{to_z-of_z}
-use Rattle.theory_signed.proofs.Laws.{fit16}
+use Rattle.std.specs.Prelude.{Err}
 use Rattle.grid_track_counts.specs.Counts.{grid_start}
 use Rattle.theory_walk.specs.Search.{at}
 use Rattle.placing_search.specs.declared.Pair.{Pair}
 use Rattle.placing_step4_choice.specs.Cursor.{place_of}
-use Rattle.placing_laying.proofs.Lays.{sound_primary, sound_secondary, items_upto}
+use Rattle.placing_laying.proofs.Lays.{sound_primary, sound_secondary}
 use Rattle.placing_step4.proofs.Step4.{once_is_near, near_all, going_none, going_on, going_stops, going_done}
-use Rattle.placing_step4.proofs.place_remaining_items.Goals.{After-struct_told-2-1, Start}
 use Rattle.placing_step4.proofs.place_remaining_items.Goals as goal
-
-pub implicit_start_line-requires : goal.implicit_start_line-requires
-implicit_start_line-requires c = sound_primary c.requires.stands.1.1.1
-
-pub implicit_start_line-requires-2 : goal.implicit_start_line-requires-2
-implicit_start_line-requires-2 c = sound_secondary c.requires.stands.1.1.1
-
--- the lines read once
-module _ (c : After-struct_told-2-1) where
-  abbrev begun : Start
-  begun = c.before.before.before.before.before.before
-
-  abbrev once : Pair
-  once = record { primary = to_z w16 (of_z w16 c.implicit_start_line.result.0); secondary = to_z w16 (of_z w16 c.implicit_start_line-2.result.0) }
-
-  once_is : place_of once ≡ at (grid_start begun.args.matrix.primary) (grid_start begun.args.matrix.secondary)
-  once_is =
-      let p = c.implicit_start_line in
-      let s = c.implicit_start_line-2 in
-      let e = to_z-of_z (fit16 p.result.0 c.struct_told-1.given.0.1) ∙ p.ensures in
-      let f = to_z-of_z (fit16 s.result.0 c.struct_told-2-1.given.0.1) ∙ s.ensures in
-      λ j. at (e j) (f j)
 
 pub loop-i-init : goal.loop-i-init
 loop-i-init c =
-    let s = begun c in
-    let a = s.args in
-    let k = s.requires.stands.1.1.1 in
-    (omega arith, (record { answers_stay = refl; primary_stays = refl; secondary_stays = refl }, going_none a.columns a.dense a.items.now a.matrix (once c) a.answers.now a.primary.now a.secondary.now (once_is_near a.matrix (once c) (sound_primary k) (sound_secondary k) (once_is c)) (once_is c)))
+    let a = c.args in
+    let k = c.requires.stands.1.1.1 in
+    let once : Pair = record { primary = to_z w16 (of_z w16 c.implicit_start_line.result.0); secondary = to_z w16 (of_z w16 c.implicit_start_line-2.result.0) } in
+    let e : place_of once ≡ at (grid_start a.matrix.primary) (grid_start a.matrix.secondary) = search rules in
+    going_none a.run.columns a.run.dense a.run.items.numbers.now a.matrix once a.answers.now a.primary.now a.secondary.now (once_is_near a.matrix once (sound_primary k) (sound_secondary k) e) e
 
-pub place_indefinitely_positioned_item-turn-requires : goal.place_indefinitely_positioned_item-turn-requires
-place_indefinitely_positioned_item-turn-requires c =
-    let t = c.before.before.before in
-    let s = begun t.before.before in
-    let lp = t.loop-i in
-    let st = s.requires.stands in
-    let l = lp.invariant.1.1.from_start st.0 st.1.0 st.1.1.0 st.1.1.1 in
-    record {
-      items = items_upto s.requires.items t.loop-i-test.true;
-      i_in_bounds = omega (arith, lp.invariant.1.0);
-      stands = (st.0, (st.1.0, (l.board, l.ready)));
-      cursor_in = near_all l.near (omega arith);
-    }
+pub place_indefinitely_positioned_item-requires-clause-stands : goal.place_indefinitely_positioned_item-requires-clause-stands
+place_indefinitely_positioned_item-requires-clause-stands c =
+    let st = c.requires.stands in
+    let l = c.loop-i.invariant.from_start st.0 st.1.0 st.1.1.0 st.1.1.1 in
+    (st.0, (st.1.0, (l.board, l.ready)))
 
-pub shape_of-answers-in-Short : goal.shape_of-answers-in-Short
-shape_of-answers-in-Short c = omega (arith, c.loop-i.invariant.1.0)
+pub place_indefinitely_positioned_item-requires-clause-cursor_in : goal.place_indefinitely_positioned_item-requires-clause-cursor_in
+place_indefinitely_positioned_item-requires-clause-cursor_in c =
+    let st = c.requires.stands in
+    let l = c.loop-i.invariant.from_start st.0 st.1.0 st.1.1.0 st.1.1.1 in
+    near_all l.near (omega arith)
 
-pub shape_of-primary-in-Short : goal.shape_of-primary-in-Short
-shape_of-primary-in-Short c = omega (arith, c.loop-i.invariant.1.0)
-
-pub shape_of-secondary-in-Short : goal.shape_of-secondary-in-Short
-shape_of-secondary-in-Short c = omega (arith, c.loop-i.invariant.1.0)
-
-pub returns-in-Short : goal.returns-in-Short
-returns-in-Short c =
-    let d = c.before.before.before.before in
-    let t = d.before.before.before.before in
-    let lp = t.loop-i in
-    going_stops lp.invariant.1.1 t.loop-i-test.true c.in-Short.number _ _ _ (rw c.in-Short.is at d.place_indefinitely_positioned_item-turn.ensures)
-
-pub overflow_add-i : goal.overflow_add-i
-overflow_add-i c =
-    let t = c.before.before.before.before.before.before.before.before in
-    omega (arith, t.loop-i-test.true, (begun t.before.before).requires.len_bound)
+pub returns-in_err-matrix : goal.returns-in_err-matrix
+returns-in_err-matrix c =
+    let r = c.in_err-matrix.field-0.0 in
+    let e : c.from_residual.result ≡ Err r = search rules in
+    rw e (going_stops c.loop-i.invariant (omega arith) r _ _ _ c.in_err-matrix.ensures)
 
 pub loop-i-preserved : goal.loop-i-preserved
-loop-i-preserved c =
-    let d = c.before.before.before.before in
-    let t = d.before.before.before.before in
-    let lp = t.loop-i in
-    let s = begun t.before.before in
-    (omega arith, (record { answers_stay = omega (arith, lp.invariant.1.0, c.answers-1.given); primary_stays = omega (arith, lp.invariant.1.0, c.primary-1.given); secondary_stays = omega (arith, lp.invariant.1.0, c.secondary-1.given) }, going_on lp.invariant.1.1 t.loop-i-test.true s.requires.items (rw c.in-On.is at d.place_indefinitely_positioned_item-turn.ensures)))
+loop-i-preserved c = going_on c.loop-i.invariant (omega arith) (c.args.run.items.good c.loop-i.i (omega arith)) c.in_ok-matrix.ensures
 
 pub returns : goal.returns
-returns c = going_done c.loop-i.invariant.1.1 (omega arith)
+returns c = going_done c.loop-i.invariant (omega arith)

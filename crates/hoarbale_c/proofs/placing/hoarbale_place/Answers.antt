@@ -5,10 +5,10 @@ use Rattle.hoarbale_c.proofs.placing.hoarbale_place.Goals as goal
 
 pub returns : goal.returns
 returns c =
-    let e = c.place-placing.ensures in
+    let e = rw (c.into.ensures, c.into-2.ensures) at c.place.ensures in
     record {
-      value = c.of_placing.ensures ∙ ap of_placing (rw (c.to_tracks-column_counts.ensures, c.to_tracks-row_counts.ensures) at e.value);
-      answers_after = rw (c.to_tracks-column_counts.ensures, c.to_tracks-row_counts.ensures) at e.answers_after;
-      row_list_after = rw (c.to_tracks-column_counts.ensures, c.to_tracks-row_counts.ensures) at e.row_list_after;
-      column_list_after = rw (c.to_tracks-column_counts.ensures, c.to_tracks-row_counts.ensures) at e.column_list_after;
+      value = c.into-3.ensures ∙ ap of_placing e.value;
+      answers_after = e.answers_after;
+      row_list_after = e.row_list_after;
+      column_list_after = e.column_list_after;
     }

@@ -1,76 +1,56 @@
 -- `place_items` meets its contract: cleared lists stand for an empty board, and from there the run is the walk.
-use mathlib.Core.Path.{◌≡◌}
-use Prim.Native.Nat.{ℕ}
+use Rattle.std.proofs.Common.{rules}
+use mathlib.Core.Path.{◌≡◌, sym}
 use native.Mathlib.Omega.{arith}
 use lib.IntN.{pos}
 use lib.ListN.{length, replicate}
 use Rattle.theory_walk.specs.Axis.{laid}
 use Rattle.placing_request.specs.Items.{axis_of}
-use Rattle.placing_laying.specs.Ready.{Ready, AfterStep}
-use Rattle.placing_run.specs.Runs.{empty_board, run_for}
-use Rattle.placing_run.proofs.Runs.{ready_empty, no_ends_empty, run_done, run_refused}
-use Rattle.placing_run.proofs.run.place_items.Goals.{After-walk_items-arg-3-1, After-walk_items-stepped, Start}
+use Rattle.placing_laying.specs.Ready.{Ready}
+use Rattle.placing_step2.specs.Ends.{NoEnds}
+use Rattle.placing_run.specs.Runs.{empty_board}
+use Rattle.placing_run.proofs.Runs.{ready_empty, no_ends_empty, run_kept, run_cleared}
+use Rattle.placing_run.proofs.run.place_items.Goals.{After-fill-2}
 use Rattle.placing_run.proofs.run.place_items.Goals as goal
 
 -- both lists are cleared
-module _ (c : After-walk_items-arg-3-1) where
-  abbrev begun : Start
-  begun = c.before.before.before.before.before.before.before.before.before
+module _ (c : After-fill-2) where
+  cleared_p : c.fill.new.self ≡ replicate (length c.args.primary.now) (pos 0)
+  cleared_p = search rules
 
-  cleared_p : c.clear.new.list ≡ replicate (length begun.args.primary.now) (pos 0)
-  cleared_p = c.clear.ensures
+  cleared_s : c.fill-2.new.self ≡ replicate (length c.args.secondary.now) (pos 0)
+  cleared_s = search rules
 
-  cleared_s : c.clear-2.new.list ≡ replicate (length begun.args.secondary.now) (pos 0)
-  cleared_s = c.clear-2.ensures
+  ready : Ready c.args.run.columns (laid (axis_of c.args.run.columns) (length c.args.primary.now) (length c.args.secondary.now)) c.args.answers.now (empty_board c.args.run.columns c.args.primary_counts c.args.secondary_counts) (record { primary = c.args.primary_counts; secondary = c.args.secondary_counts; primary_used = 0; secondary_used = 0 }) c.args.answers.now c.fill.new.self c.fill-2.new.self
+  ready = ready_empty c.args.run.columns c.args.primary_counts c.args.secondary_counts c.requires.sound.0 c.requires.sound.1 c.args.answers.now c.fill.new.self c.fill-2.new.self (length c.args.primary.now) (length c.args.secondary.now) cleared_p cleared_s
 
-  ready : Ready begun.args.columns (laid (axis_of begun.args.columns) (length begun.args.primary.now) (length begun.args.secondary.now)) begun.args.answers.now (empty_board begun.args.columns begun.args.primary_counts begun.args.secondary_counts) (record { primary = begun.args.primary_counts; secondary = begun.args.secondary_counts; primary_used = 0; secondary_used = 0 }) begun.args.answers.now c.clear.new.list c.clear-2.new.list
-  ready =
-      let s = begun in
-      ready_empty s.args.columns s.args.primary_counts s.args.secondary_counts s.requires.sound.0 s.requires.sound.1 s.args.answers.now c.clear.new.list c.clear-2.new.list (length s.args.primary.now) (length s.args.secondary.now) cleared_p cleared_s
+  no_ends : NoEnds c.args.run.columns (empty_board c.args.run.columns c.args.primary_counts c.args.secondary_counts)
+  no_ends = no_ends_empty c.args.run.columns c.args.primary_counts c.args.secondary_counts c.requires.sound.0 c.requires.sound.1 c.args.answers.now c.fill.new.self c.fill-2.new.self (length c.args.primary.now) (length c.args.secondary.now) cleared_p cleared_s
 
-pub walk_items-stepped-requires : goal.walk_items-stepped-requires
-walk_items-stepped-requires c =
-    let s = begun c in
+pub walk_items-walked-requires : goal.walk_items-walked-requires
+walk_items-walked-requires c =
+    let f = (goal.at.walk_items-walked-requires c).After-fill-2 in
+    let a = c.args in
     record {
-      items = s.requires.items;
-      len_bound = s.requires.len_bound;
-      in_bounds = omega (arith, s.requires.answers_len);
-      stands_fresh = (laid (axis_of s.args.columns) (length s.args.primary.now) (length s.args.secondary.now), (s.args.answers.now, (empty_board s.args.columns s.args.primary_counts s.args.secondary_counts, (ready c, no_ends_empty s.args.columns s.args.primary_counts s.args.secondary_counts s.requires.sound.0 s.requires.sound.1 s.args.answers.now c.clear.new.list c.clear-2.new.list (length s.args.primary.now) (length s.args.secondary.now) (cleared_p c) (cleared_s c)))));
+      len_bound = c.requires.len_bound;
+      in_bounds = omega (arith, c.requires.answers_len);
+      stands_fresh = (laid (axis_of a.run.columns) (length a.primary.now) (length a.secondary.now), (a.answers.now, (empty_board a.run.columns a.primary_counts a.secondary_counts, (ready f, no_ends f))));
     }
 
--- the walk from there
-module _ (d : After-walk_items-stepped) where
-  abbrev arg : After-walk_items-arg-3-1
-  arg = d.before
+pub returns-then-is_err : goal.returns-then-is_err
+returns-then-is_err c =
+    let f = (goal.at.returns-then-is_err c).After-fill-2 in
+    let a = c.args in
+    let room = laid (axis_of a.run.columns) (length a.primary.now) (length a.secondary.now) in
+    let walked = c.walk_items-walked.ensures room a.answers.now (empty_board a.run.columns a.primary_counts a.secondary_counts) (ready f) (no_ends f) in
+    run_cleared a.run.columns a.run.dense a.run.items.numbers.now a.primary_counts a.secondary_counts a.answers.now (length a.primary.now) (length a.secondary.now) c.walk_items-walked.result _ _ _ walked
+    (sym c.if-is_err.ensures.value) _ _ _ (search rules) (search rules) (search rules)
 
-  abbrev s₀ : Start
-  s₀ = begun arg
-
-  abbrev pl : ℕ
-  pl = length s₀.args.primary.now
-
-  abbrev sl : ℕ
-  sl = length s₀.args.secondary.now
-
-  walked : AfterStep s₀.args.columns (laid (axis_of s₀.args.columns) pl sl) s₀.args.answers.now (run_for s₀.args.columns s₀.args.dense s₀.args.items.now s₀.args.primary_counts s₀.args.secondary_counts pl sl) d.walk_items-stepped.result d.walk_items-stepped.new.answers d.walk_items-stepped.new.primary d.walk_items-stepped.new.secondary
-  walked =
-      d.walk_items-stepped.ensures (laid (axis_of s₀.args.columns) pl sl) s₀.args.answers.now (empty_board s₀.args.columns s₀.args.primary_counts s₀.args.secondary_counts) (ready arg)
-      (no_ends_empty s₀.args.columns s₀.args.primary_counts s₀.args.secondary_counts s₀.requires.sound.0 s₀.requires.sound.1 s₀.args.answers.now arg.clear.new.list arg.clear-2.new.list pl sl (cleared_p arg) (cleared_s arg))
-
-pub returns-in-Done : goal.returns-in-Done
-returns-in-Done c =
-    let d = c.before.before.before.before in
-    let a = (s₀ d).args in
-    run_done a.columns a.dense a.items.now a.primary_counts a.secondary_counts a.answers.now (pl d) (sl d) c.in-Done.last
-    d.walk_items-stepped.new.answers d.walk_items-stepped.new.primary d.walk_items-stepped.new.secondary d.walk_items-stepped.result (walked d) c.in-Done.is
-
-pub returns-in-Refused : goal.returns-in-Refused
-returns-in-Refused c =
-    let q = c.before.before.before in
-    let t = q.before.before.before.before in
-    let d = t.before.before.before.before in
-    let a = (s₀ d).args in
-    let e = q.clear_all.ensures in
-    run_refused a.columns a.dense a.items.now a.primary_counts a.secondary_counts a.answers.now (pl d) (sl d) _ _
-    d.walk_items-stepped.new.answers d.walk_items-stepped.new.primary d.walk_items-stepped.new.secondary d.walk_items-stepped.result (walked d) t.in-Refused.is
-    _ _ _ e.0 e.1.0 e.1.1
+pub returns-else-is_err : goal.returns-else-is_err
+returns-else-is_err c =
+    let f = (goal.at.returns-else-is_err c).After-fill-2 in
+    let a = c.args in
+    let room = laid (axis_of a.run.columns) (length a.primary.now) (length a.secondary.now) in
+    let walked = c.walk_items-walked.ensures room a.answers.now (empty_board a.run.columns a.primary_counts a.secondary_counts) (ready f) (no_ends f) in
+    run_kept a.run.columns a.run.dense a.run.items.numbers.now a.primary_counts a.secondary_counts a.answers.now (length a.primary.now) (length a.secondary.now) c.walk_items-walked.result _ _ _ walked
+    (sym c.if-is_err.ensures.value)

@@ -1,8 +1,5 @@
-use Rattle.std.proofs.Common.{◌≡◌, ◌-◌, ◌≤◌, length}
+use Rattle.std.proofs.Common.{◌≡◌, ◌≤◌, length}
 use Rattle.test_boards.proofs.damaged.both_told.Given as goal
 
 abbrev pub invariant-loop-n : goal.invariant-loop-n
-invariant-loop-n l = (l.n ≤ 20) × ((l.sum ≤ l.n) × (length l.file ≡ length l.initial.file))
-
-abbrev pub decreases-loop-n : goal.decreases-loop-n
-decreases-loop-n l = 20 - l.n
+invariant-loop-n l = (l.sum ≤ l.n) × (length l.file ≡ length l.initial.file)

@@ -1,6 +1,0 @@
--- `records_of_track` meets its contract.
-use mir.Facts.{to_z-of_z}
-use Rattle.hoarbale_lists.proofs.records_of_track.Goals as goal
-
-pub returns : goal.returns
-returns c = rw (to_z-of_z c.ranges.track) at c.records_of_track.ensures
