@@ -23,21 +23,22 @@ pub fn number(list: &[i16], at: usize) -> i16
 }
 
 // The record at `at` by itself: its ranges, start before end, a state. Four zeros are none, so unused places end the records.
+// A number is read when it is judged: a call on a list spends its time here, and with all of them read first it takes a third more instructions.
 fn good(list: &[i16], at: usize) -> bool
     requires { at + 4 ≤ length list.now }
     ensures { Says result (GoodAt list.now at) }
 {
     let track = number(list, at);
+    if track < -10000 || track > 9999 {
+        return false;
+    }
     let start = number(list, at + 1);
     let end = number(list, at + 2);
+    if start < -10000 || end <= start || end > 10000 {
+        return false;
+    }
     let state = number(list, at + 3);
-    -10000 <= track
-        && track <= 9999
-        && -10000 <= start
-        && start < end
-        && end <= 10000
-        && 1 <= state
-        && state <= 2
+    1 <= state && state <= 2
 }
 
 // Whether the record at `at + 4` may stand behind the one at `at`: in order, and not of the same state where they touch.
@@ -48,11 +49,18 @@ fn follows(list: &[i16], at: usize) -> bool
     let behind = at + 4;
     let track = number(list, at);
     let track2 = number(list, behind);
+    if track != track2 {
+        return track < track2;
+    }
     let end = number(list, at + 2);
     let start2 = number(list, behind + 1);
+    if end != start2 {
+        return end < start2;
+    }
+    // They touch, so the states must differ.
     let state = number(list, at + 3);
     let state2 = number(list, behind + 3);
-    track < track2 || track == track2 && (end < start2 || end == start2 && state != state2)
+    state != state2
 }
 
 // Whether record i keeps the rules, and may stand behind the record before it.
