@@ -10,6 +10,7 @@ ghost use Rattle.placing_run.specs.Runs.{AfterRun};
 
 use crate::definite::place_definite_items;
 use grid_track_counts::TrackCounts;
+use list_painting::clear;
 use placing_laying::{Matrix, Run};
 use placing_step2::place_definite_secondary_axis_items;
 use placing_step4::place_remaining_items;
@@ -48,8 +49,8 @@ pub fn place_items(
     requires sound { Sound primary_counts × Sound secondary_counts }
     ensures { AfterRun run.entry.columns run.entry.dense run.entry.items.numbers.now primary_counts secondary_counts answers.old (length primary.old) (length secondary.old) result answers.new primary.new secondary.new }
 {
-    primary.fill(0);
-    secondary.fill(0);
+    clear(primary);
+    clear(secondary);
     let matrix = Matrix {
         primary: primary_counts,
         secondary: secondary_counts,
@@ -58,9 +59,9 @@ pub fn place_items(
     };
     let walked = walk_items(run, matrix, answers, primary, secondary);
     if walked.is_err() {
-        answers.fill(0);
-        primary.fill(0);
-        secondary.fill(0);
+        clear(answers);
+        clear(primary);
+        clear(secondary);
     }
     walked
 }

@@ -10,26 +10,26 @@ use Rattle.placing_laying.specs.Ready.{Ready}
 use Rattle.placing_step2.specs.Ends.{NoEnds}
 use Rattle.placing_run.specs.Runs.{empty_board}
 use Rattle.placing_run.proofs.Runs.{ready_empty, no_ends_empty, run_kept, run_cleared}
-use Rattle.placing_run.proofs.run.place_items.Goals.{After-fill-2}
+use Rattle.placing_run.proofs.run.place_items.Goals.{After-clear-2}
 use Rattle.placing_run.proofs.run.place_items.Goals as goal
 
 -- both lists are cleared
-module _ (c : After-fill-2) where
-  cleared_p : c.fill.new.self ≡ replicate (length c.args.primary.now) (pos 0)
+module _ (c : After-clear-2) where
+  cleared_p : c.clear.new.list ≡ replicate (length c.args.primary.now) (pos 0)
   cleared_p = search rules
 
-  cleared_s : c.fill-2.new.self ≡ replicate (length c.args.secondary.now) (pos 0)
+  cleared_s : c.clear-2.new.list ≡ replicate (length c.args.secondary.now) (pos 0)
   cleared_s = search rules
 
-  ready : Ready c.args.run.columns (laid (axis_of c.args.run.columns) (length c.args.primary.now) (length c.args.secondary.now)) c.args.answers.now (empty_board c.args.run.columns c.args.primary_counts c.args.secondary_counts) (record { primary = c.args.primary_counts; secondary = c.args.secondary_counts; primary_used = 0; secondary_used = 0 }) c.args.answers.now c.fill.new.self c.fill-2.new.self
-  ready = ready_empty c.args.run.columns c.args.primary_counts c.args.secondary_counts c.requires.sound.0 c.requires.sound.1 c.args.answers.now c.fill.new.self c.fill-2.new.self (length c.args.primary.now) (length c.args.secondary.now) cleared_p cleared_s
+  ready : Ready c.args.run.columns (laid (axis_of c.args.run.columns) (length c.args.primary.now) (length c.args.secondary.now)) c.args.answers.now (empty_board c.args.run.columns c.args.primary_counts c.args.secondary_counts) (record { primary = c.args.primary_counts; secondary = c.args.secondary_counts; primary_used = 0; secondary_used = 0 }) c.args.answers.now c.clear.new.list c.clear-2.new.list
+  ready = ready_empty c.args.run.columns c.args.primary_counts c.args.secondary_counts c.requires.sound.0 c.requires.sound.1 c.args.answers.now c.clear.new.list c.clear-2.new.list (length c.args.primary.now) (length c.args.secondary.now) cleared_p cleared_s
 
   no_ends : NoEnds c.args.run.columns (empty_board c.args.run.columns c.args.primary_counts c.args.secondary_counts)
-  no_ends = no_ends_empty c.args.run.columns c.args.primary_counts c.args.secondary_counts c.requires.sound.0 c.requires.sound.1 c.args.answers.now c.fill.new.self c.fill-2.new.self (length c.args.primary.now) (length c.args.secondary.now) cleared_p cleared_s
+  no_ends = no_ends_empty c.args.run.columns c.args.primary_counts c.args.secondary_counts c.requires.sound.0 c.requires.sound.1 c.args.answers.now c.clear.new.list c.clear-2.new.list (length c.args.primary.now) (length c.args.secondary.now) cleared_p cleared_s
 
 pub walk_items-walked-requires : goal.walk_items-walked-requires
 walk_items-walked-requires c =
-    let f = (goal.at.walk_items-walked-requires c).After-fill-2 in
+    let f = (goal.at.walk_items-walked-requires c).After-clear-2 in
     let a = c.args in
     record {
       len_bound = c.requires.len_bound;
@@ -39,7 +39,7 @@ walk_items-walked-requires c =
 
 pub returns-then-is_err : goal.returns-then-is_err
 returns-then-is_err c =
-    let f = (goal.at.returns-then-is_err c).After-fill-2 in
+    let f = (goal.at.returns-then-is_err c).After-clear-2 in
     let a = c.args in
     let room = laid (axis_of a.run.columns) (length a.primary.now) (length a.secondary.now) in
     let walked = c.walk_items-walked.ensures room a.answers.now (empty_board a.run.columns a.primary_counts a.secondary_counts) (ready f) (no_ends f) in
@@ -48,7 +48,7 @@ returns-then-is_err c =
 
 pub returns-else-is_err : goal.returns-else-is_err
 returns-else-is_err c =
-    let f = (goal.at.returns-else-is_err c).After-fill-2 in
+    let f = (goal.at.returns-else-is_err c).After-clear-2 in
     let a = c.args in
     let room = laid (axis_of a.run.columns) (length a.primary.now) (length a.secondary.now) in
     let walked = c.walk_items-walked.ensures room a.answers.now (empty_board a.run.columns a.primary_counts a.secondary_counts) (ready f) (no_ends f) in
