@@ -195,15 +195,23 @@ module _ (c : Call) (x : Back) (meets : Meets c x) where
   refused_by (by_board b e g h) f = not_placed f.is
 
   why : {n i : ℕ} → RefusedBy x.result n i → (checked q ≡ Some (record { number = n; index = i })) ⊎ ((checked q ≡ None) × (run_of q ≡ stopped n i))
-  why f = refused_by (ends q) (record { refusal = f.refusal; is = sym meets.result ∙ f.is; named = f.named; number_is = f.number_is; index_is = f.index_is })
+  why f = refused_by (ends q) (record { refusal = f.refusal; is = sym meets.result ∙ f.is; number_is = f.number_is; index_is = f.index_is })
 
   -- 1 to 6 are "Given exactly when" the first of their reasons holds, "in that order",
   pub refused_first : (n i : ℕ) → ((RefusedBy x.result n i) × (n ≤ 6)) ↔ Broken q n i
-  refused_first n i = ((λ h. go h.1 (why h.0)), (λ b. (record { refusal = numbered n i; is = meets.result ∙ ap S.placing_of (W.checks_refuse q n i (broken_checked q b)); named = refl; number_is = (broken_named b).0; index_is = (broken_named b).1 }, checked_low q (record { number = n; index = i }) (broken_checked q b))))
+  refused_first n i = ((λ h. go h.1 (why h.0)), (λ b. (record { refusal = numbered n i; is = meets.result ∙ ap S.placing_of (W.checks_refuse q n i (broken_checked q b)); number_is = (broken_named b).0; index_is = (broken_named b).1 }, checked_low q (record { number = n; index = i }) (broken_checked q b))))
     where
       go : n ≤ 6 → (checked q ≡ Some (record { number = n; index = i })) ⊎ ((checked q ≡ None) × (run_of q ≡ stopped n i)) → Broken q n i
       go h (inl e) = checked_broken q n i e
       go h (inr (e, f)) = absurd (let k = room_number e f in let z : ⊥ = omega arith in z)
+
+  -- a number and an index are those of one case alone
+  pub refused_named : (n i : ℕ) → RefusedBy x.result n i → x.result ≡ Err (numbered n i)
+  refused_named n i h = go (why h)
+    where
+      go : (checked q ≡ Some (record { number = n; index = i })) ⊎ ((checked q ≡ None) × (run_of q ≡ stopped n i)) → x.result ≡ Err (numbered n i)
+      go (inl e) = meets.result ∙ ap S.placing_of (W.checks_refuse q n i e)
+      go (inr (e, f)) = meets.result ∙ ap S.placing_of (W.room_refuses q n i e f)
 
   -- and leave "all unchanged"
   pub refusal_unchanged : (n i : ℕ) → RefusedBy x.result n i → n ≤ 6 → (x.answers ≡ c.answers) × (x.row_list ≡ c.row_list) × (x.column_list ≡ c.column_list)
@@ -214,7 +222,7 @@ module _ (c : Call) (x : Back) (meets : Meets c x) where
   room_refused : {n i : ℕ} → checked q ≡ None → run_of q ≡ stopped n i → RefusedBy x.result n i
   room_refused {n} {i} p f =
       let h = room_named (full_number ((W.refused_full q p n i).0 f)) in
-      record { refusal = numbered n i; is = meets.result ∙ ap S.placing_of (W.room_refuses q n i p f); named = refl; number_is = h.0; index_is = h.1 }
+      record { refusal = numbered n i; is = meets.result ∙ ap S.placing_of (W.room_refuses q n i p f); number_is = h.0; index_is = h.1 }
 
   -- 7 and 8 are given exactly when the request passes and an item has no room, "7 before 8, with that item's index"
   pub refused_room : (n i : ℕ) → ((RefusedBy x.result n i) × (6 < n)) ↔ (Passes q × NoRoom n i)

@@ -1,7 +1,7 @@
 -- The document's numbers for each case of the placement call's answer. What it gives and leaves for every input is `outcome`,
 -- `answers_left`, `rows_left` and `columns_left` of the walk.
 use Rattle.std.specs.Prelude.{◌≡◌, ℕ, Result, Ok, Err}
-use Rattle.refusals.specs.Numbers.{number, index, numbered}
+use Rattle.refusals.specs.Numbers.{number, index}
 use Rattle.refusals.specs.declared.Refusal.{Refusal}
 use Rattle.grid_track_counts.specs.declared.TrackCounts.{TrackCounts}
 use Rattle.placing_run.specs.declared.checked.Placed.{Placed}
@@ -31,10 +31,9 @@ placing_rows (Err r) = no_counts
 abbrev pub answered_with : TrackCounts → TrackCounts → Result Placed Refusal
 answered_with columns rows = Ok (record { columns = columns; rows = rows })
 
--- it is refused by a placement's refusal with this number and this index
+-- it is refused by this number and this index
 pub record RefusedBy (x : Result Placed Refusal) (n i : ℕ) : Type 0 where
   pub refusal : Refusal
   pub is : x ≡ Err refusal
-  pub named : refusal ≡ numbered n i
   pub number_is : number refusal ≡ n
   pub index_is : index refusal ≡ i
