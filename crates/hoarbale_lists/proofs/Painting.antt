@@ -23,6 +23,11 @@ abbrev pub told : {A : Type 0} → Result A Refusal → Result Unit Refusal
 told (Ok n) = Ok tt
 told (Err e) = Err e
 
+-- what is told, however the code makes it of what the inner paint gives: that it is painted, and without room the refusal 7
+pub told_by : (r : Option ℕ) (o : Result Unit Refusal) → ((n : ℕ) → r ≡ Some n → o ≡ Ok tt) → (r ≡ None → o ≡ Err R.ShortList) → o ≡ told (ok_or r R.ShortList)
+told_by (Some n) o some none = some n refl
+told_by None o some none = none refl
+
 pub inner_answer : (l y : List ℤ) (x : Area ℤ) (n : ℕ) (r : Option ℕ) → checked_of l ≡ Ok n → good_area x ≡ true
     → (4 * length (paint_list x (recs n l)) ≤ length l → (r ≡ Some (length (paint_list x (recs n l)))) × (y ≡ flat (length l) (paint_list x (recs n l))))
     → (length l < 4 * length (paint_list x (recs n l)) → (r ≡ None) × (y ≡ l))

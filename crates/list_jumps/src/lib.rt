@@ -3,7 +3,7 @@
 
 ghost use Rattle.std.specs.Prelude.{◌≡◌, ◌/◌, length, ℤ, ◌<ℤ◌};
 ghost use Rattle.theory_intervals.specs.Lists.{recs};
-ghost use Rattle.list_jumps.specs.Calls.{extent_of, collision_jump, occupied_jump};
+ghost use Rattle.list_jumps.specs.Calls.{extent_of, larger, collision_jump, occupied_jump};
 ghost use Rattle.list_rules.specs.Held.{held};
 ghost use Rattle.list_rules.specs.Inner.{Ascends, Crosses, Starting, Bounded};
 
@@ -65,6 +65,14 @@ pub fn collision_extent(part: &[i16], start: i16, end: i16) -> Option<i16>
     (start < ends).then_some(ends)
 }
 
+// The larger of one track's answer and the answer of others.
+#[tactic(auto, using(crate::proofs::Maximum::larger_max))]
+fn larger(extent: Option<i16>, jump: Option<i16>) -> Option<i16>
+    ensures { result ≡ larger extent jump }
+{
+    extent.max(jump)
+}
+
 // The largest, over the crossed tracks, of the end of the last overlapping record. The records of the crossed tracks are those from
 // `first` up to `past`. On a track no record ends later than the last one that overlaps, so all of them are looked at alike: for few
 // records that is cheaper than going by tracks.
@@ -90,7 +98,7 @@ fn collision_by_tracks(list: &[i16], first: usize, past: usize, start: i16, end:
     let mut best = None;
     while first < k {
         let part = last_track(list, first, k);
-        best = collision_extent(part, start, end).max(best);
+        best = larger(collision_extent(part, start, end), best);
         k -= part.len() / 4;
     }
     best

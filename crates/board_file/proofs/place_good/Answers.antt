@@ -1,11 +1,12 @@
 -- `place_good` meets its contract: too many items are refused as the door would, others are read and given to the door.
 use Rattle.std.proofs.Common.{rules, Ok, Err}
-use mathlib.Core.Path.{◌≡◌, sym, ap, ◌∙◌}
+use mathlib.Core.Path.{◌≡◌, ap, ◌∙◌}
+use Prim.Native.Nat.{◌≤◌, ◌<◌}
 use native.Mathlib.Omega.{arith}
-use borrow.Author.Tests.{ltb-true, ltb-false}
-use lib.ListN.{length}
+use Rattle.std.proofs.lemmas.Bool.Decides.{nat_tests}
+use lib.ListN.{length, get_or}
 use Rattle.refusals.specs.declared.Refusal.{Refusal}
-use Rattle.placing_request.proofs.Ladder.{flow_known, flow_unknown}
+use Rattle.refusals.specs.declared.Refusal.TheVariants.{UnknownFlow}
 use Rattle.board_bytes.proofs.Judged.{good_length, head_count, head_flow}
 use Rattle.board_file.proofs.Judged.{same_request, flow_refused, count_refused, many_refused, read_whole, read_left, door}
 use Rattle.board_file.proofs.place_good.Goals as goal
@@ -18,11 +19,13 @@ returns-in_err-try_from c =
     let h = c.requires.head_value in
     let r = c.in_err-try_from.field-0.0 in
     let e : c.from_residual.result ≡ Err r = search rules in
-    let u = flow_unknown a.head.flow r (sym c.try_from.ensures ∙ c.in_err-try_from.was) in
+    let s = head_flow bs a.head h in
+    let u : 3 < get_or bs 5 0 = grind (arith, nat_tests) in
+    let v : r ≡ UnknownFlow = grind (arith, nat_tests) in
     let both = many_refused bs (length a.answers.now) (length a.column_list.now) (length a.row_list.now) g
     _ a.head.count _ _ _ _ (omega (arith, head_count bs a.head h, c.if-head-gt2000.true))
-    (flow_refused bs (length a.answers.now) (length a.column_list.now) (length a.row_list.now) g (omega (arith, head_flow bs a.head h, ltb-true 3 a.head.flow u.0))) in
-    record { value = e ∙ ap (λ (x : Refusal). Err x) u.1 ∙ both.0; after = both.1.0; answers_after = both.1.1.0; row_list_after = both.1.1.1.0; column_list_after = both.1.1.1.1 }
+    (flow_refused bs (length a.answers.now) (length a.column_list.now) (length a.row_list.now) g u) in
+    record { value = e ∙ ap (λ (x : Refusal). Err x) v ∙ both.0; after = both.1.0; answers_after = both.1.1.0; row_list_after = both.1.1.1.0; column_list_after = both.1.1.1.1 }
 
 pub returns-then-head-gt2000 : goal.returns-then-head-gt2000
 returns-then-head-gt2000 c =
@@ -30,11 +33,12 @@ returns-then-head-gt2000 c =
     let bs = a.bytes.now in
     let g = c.requires.bytes_value in
     let h = c.requires.head_value in
-    let u = flow_known a.head.flow c.in_ok-try_from.field-0 (sym c.try_from.ensures ∙ c.in_ok-try_from.was) in
+    let s = head_flow bs a.head h in
+    let u : get_or bs 5 0 ≤ 3 = grind (arith, nat_tests) in
     let both = many_refused bs (length a.answers.now) (length a.column_list.now) (length a.row_list.now) g
     _ a.head.count _ _ _ _ (omega (arith, head_count bs a.head h, c.if-head-gt2000.true))
     (count_refused bs (length a.answers.now) (length a.column_list.now) (length a.row_list.now) g
-    (omega (arith, head_flow bs a.head h, ltb-false 3 a.head.flow u.0)) (omega (arith, head_count bs a.head h, c.if-head-gt2000.true))) in
+    u (omega (arith, head_count bs a.head h, c.if-head-gt2000.true))) in
     record { value = both.0; after = both.1.0; answers_after = both.1.1.0; row_list_after = both.1.1.1.0; column_list_after = both.1.1.1.1 }
 
 pub read_items-requires : goal.read_items-requires

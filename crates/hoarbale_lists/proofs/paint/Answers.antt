@@ -7,7 +7,7 @@ use Rattle.list_areas.specs.Areas.{area_of}
 use Rattle.list_areas.specs.Meant.{meant}
 use Rattle.hoarbale_lists.specs.Lists.{paint_answer, paint_left}
 use Rattle.hoarbale_lists.proofs.Checking.{checked_holds}
-use Rattle.hoarbale_lists.proofs.Painting.{told, inner_answer}
+use Rattle.hoarbale_lists.proofs.Painting.{told, told_by, inner_answer}
 use Rattle.hoarbale_lists.proofs.paint.Goals.{After-ok_or}
 use Rattle.hoarbale_lists.proofs.paint.Goals as goal
 
@@ -23,7 +23,8 @@ answered c =
     let a = c.args in
     let e = c.paint-painted.ensures in
     let i = inner_answer a.list.now c.paint-painted.new.list (meant c.in_ok-area.area) c.in_ok-used_before.used_before c.paint-painted.result (search rules) (ap good_area t.0 ∙ t.1) e.painted e.refused in
-    rw (← c.ok_or.ensures.value, t.0, to_z-of_z f.track_start, to_z-of_z f.track_end, to_z-of_z f.start, to_z-of_z f.end, to_z-of_z f.state) at i
+    let s = told_by c.paint-painted.result (told c.ok_or.result) (λ n q. search rules) (λ q. search rules) in
+    rw (← s, t.0, to_z-of_z f.track_start, to_z-of_z f.track_end, to_z-of_z f.start, to_z-of_z f.end, to_z-of_z f.state) at i
 
 pub returns-in_err-ok_or : goal.returns-in_err-ok_or
 returns-in_err-ok_or c =

@@ -11,7 +11,6 @@ use Rattle.theory_intervals.specs.Lists.{recs}
 use Rattle.list_jumps.specs.Calls.{larger, collision_jump}
 use Rattle.list_rules.specs.Inner.{Front, Crosses}
 use Rattle.list_rules.proofs.ByIndex.{holds_front}
-use Rattle.list_jumps.proofs.Maximum.{larger_max}
 use Rattle.list_jumps.proofs.LastOverlap.{part_ascends}
 use Rattle.list_jumps.proofs.Crossed.{in_order, SoFar, start_far, next_before, next_front, next_part, next_at, next_less, next_far, all_far}
 use Rattle.list_jumps.proofs.collision_by_tracks.Goals.{In-loop-k, Start}
@@ -67,7 +66,7 @@ pub loop-k-preserved : goal.loop-k-preserved
 loop-k-preserved c =
     let q = (goal.at.loop-k-preserved c).In-loop-k in
     let w = c.last_track-part.ensures in
-    let e = c.max-best.ensures ∙ larger_max c.collision_extent.result q.loop-k.best ∙ ap (λ (e : Option ℤ). larger e q.loop-k.best) c.collision_extent.ensures in (
+    let e = c.larger-best.ensures ∙ ap (λ (e : Option ℤ). larger e q.loop-k.best) c.collision_extent.ensures in (
       omega (arith, next_at (f q) (v q) (x q).begins q.loop-k-test.true w, w.low),
       λ y. next_far (holds_front y.holds) (q.loop-k.invariant.1 y) y.begins q.loop-k-test.true y.holds w e,
     )
