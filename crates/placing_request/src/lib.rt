@@ -14,6 +14,7 @@ pub mod flow;
 
 // The three numbers that an item has for one axis. Lines may lie outside the limited grid, which they are pressed into later; a
 // span has one number, and the place of the second is unused and holds 0.
+#[tactic(auto, unfolding(theory_walk::specs::Request::good_half))]
 fn half_is_good(kind: i16, a: i16, b: i16) -> bool
     ensures { result ≡ good_half (half kind a b) }
 {
